@@ -7,5 +7,6 @@ pub mod Refusals
 pub mod Rewrite
 pub mod Surveys
 pub mod Laws
+pub mod Words
 pub mod Names
 pub mod Reading

@@ -1,4 +1,4 @@
-//! The bytes of a data block as a value of their own.
+//! The bytes of a data block, owned.
 ghost use Rattle.std.specs.Prelude.{◌≡◌, ◌↔◌, IsTrue, IfOk, OnErr, Err};
 ghost use Rattle.base.specs.declared.refusal.Refusal.{Refusal};
 
@@ -6,12 +6,12 @@ use crate::refusal::Refusal;
 use std::alloc::Global;
 use std::marker::Model;
 
-/// The 512 bytes of a data block, in memory of their own: a move of them costs a pointer. Contracts see the list of them.
+/// The 512 bytes of a data block, in a box, so that a move copies only a pointer. Contracts see the list of the bytes.
 pub struct Data {
     bytes: Box<[u8; 512]>,
 }
 
-// By hand, so that it is proved once: a derived one is laid out anew in each crate that drops the type.
+// Written by hand, so that it is proved once: a derived one is expanded anew in each crate that drops the type.
 impl Drop for Data {
     fn drop(self) {
         let Data { bytes } = self;

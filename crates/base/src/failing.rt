@@ -1,4 +1,4 @@
-//! Readers and writers that tell how often they failed.
+//! Readers and writers that count their failures.
 ghost use Rattle.std.specs.Prelude.{◌≡◌, ℕ, OnOk};
 ghost use Rattle.std.specs.Io.Buffered.{reader_inner, writer_inner};
 ghost use Rattle.std.specs.Io.{ReadsAtMost, WritesAtMost};
@@ -11,10 +11,10 @@ use std::alloc::Allocator;
 use std::io;
 use std::io::{BufRead, BufReader, BufWriter, ErrorKind, Read, Write};
 
-/// A reader or writer that tells how often it failed (profile).
+/// A reader or writer that counts its failures (profile).
 ///
-/// By it a caller knows a device's fault from want of memory: a device failed in a call only where the count rose in it. At
-/// the greatest u64 the count stays, and then counts as risen.
+/// By the count a caller can tell a device's fault from a lack of memory: the device failed in a call only where the count rose in that call.
+/// The count stays at the greatest u64, and at that value it counts as risen.
 pub trait Failing {
     ghost failures: { Self → ℕ };
 
@@ -47,7 +47,7 @@ impl<W: Write + Failing + Drop, A: Allocator> Failing for BufWriter<W, A> {
     }
 }
 
-/// Any reader or writer, with a count of its failures. Want of memory is none of them.
+/// Any reader or writer, with a count of its failures. A lack of memory is not counted.
 #[derive(Drop)]
 pub struct Counted<T> {
     pub inner: T,
@@ -113,8 +113,8 @@ impl<W: Write> Write for Counted<W> {
 impl<B: BufRead> BufRead for Counted<B> {
     ghost consumable_len = { λ c. B.consumable_len c.inner };
 
-    // It looks twice, unless nothing is left to read: once for a failure, and once for the bytes, which the first look has left in
-    // the buffer.
+    // It calls the inner `fill_buf` twice, unless nothing is left to read: first to find a failure, and then for the bytes, which the first call
+    // has left in the buffer.
     fn fill_buf(&mut self) -> io::Result<&[u8]> {
         match self.inner.fill_buf() {
             Ok(bytes) if bytes.is_empty() => return Ok(&[]),
@@ -129,7 +129,7 @@ impl<B: BufRead> BufRead for Counted<B> {
     }
 }
 
-// What a call answered, once its failure is counted.
+// The outcome of a call, unchanged; where it is a failure, the failure is counted.
 fn noted<T>(outcome: io::Result<T>, count: &mut u64) -> io::Result<T>
     ensures same { result ≡ outcome }
     ensures count { IsCountedCall result count.old count.new }
@@ -140,7 +140,7 @@ fn noted<T>(outcome: io::Result<T>, count: &mut u64) -> io::Result<T>
     outcome
 }
 
-// The count after a failure: one more, unless it was want of memory.
+// The count after a failure: one more, unless the failure was a lack of memory.
 fn count_after(count: u64, e: &io::Error) -> u64
     ensures { IsCountedKind (error_kind e.now) count result }
 {

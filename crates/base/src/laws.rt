@@ -7,7 +7,7 @@ pub fn rewrite_laws()
     ensures { RewriteIsItsRule }
 {}
 
-/// The orders of keys and of blocks are total, and in each only equals tie.
+/// The orders of keys and of blocks are total, and in each only equal ones compare as equal.
 #[tactic(auto, using(crate::proofs::LawProofs::keys_are_told, crate::proofs::LawProofs::blocks_are_told))]
 pub fn order_laws()
     ensures keys { KeysAreTold }

@@ -1,4 +1,4 @@
-//! Numbers, data, refusals and meters that every layer speaks of, and the definitions of a dataset's map.
+//! Numbers, data, refusals and meters that every layer uses, and the definitions of a dataset's map.
 #![tactic(auto)]
 
 pub mod data;

@@ -4,7 +4,8 @@ ghost use Rattle.std.specs.Prelude.{◌≡◌, ◌≤◌, ◌^◌, ◌⊎◌, �
 use crate::refusal::Refusal;
 use std::marker::Model;
 
-/// How many blocks a limit property allows or keeps, 1 to 2^40 (profile). No limit is `None` of an `Option<Blocks>`.
+/// The number of blocks that a limit property allows or reserves, 1 to 2^40 (profile). Where a limit may be absent, the type is
+/// `Option<Blocks>`.
 #[derive(Clone, Copy, PartialEq, Eq, PartialOrd, Ord, Debug)]
 pub struct Blocks {
     count: u64,

@@ -1,11 +1,12 @@
-//! Counts of what was reached.
-ghost use Rattle.std.specs.Prelude.{◌≡◌};
+//! Counters of the nodes and segments that were reached.
+ghost use Rattle.std.specs.Prelude.{◌≡◌, ◌≤◌};
 ghost use Rattle.base.specs.Counting.{counted};
 
 use std::marker::Model;
 use toll::Toll;
 
-/// How many nodes of trees were reached. The count stops at the greatest u64. A meter costs a [`Toll`], and cannot be copied.
+/// Counts the nodes of trees that were reached. The count stops at the greatest u64. Making a meter takes a [`Toll`], and a meter cannot be
+/// copied.
 #[derive(Drop, Debug)]
 pub struct Meter {
     nodes: u64,
@@ -38,14 +39,15 @@ impl Meter {
 
     /// Counts one more node.
     pub fn add_one(&mut self)
-        ensures { self.new ≡ counted self.old 1 }
+        ensures metered { self.new ≡ counted self.old 1 }
+        ensures never_lower { self.old ≤ self.new }
     {
         self.nodes = one_more(self.nodes);
     }
 }
 
-/// How many segments of dead lists were reached. The count stops at the greatest u64. A meter costs a [`Toll`], and cannot be
-/// copied.
+/// Counts the segments of dead lists that were reached. The count stops at the greatest u64. Making a meter takes a [`Toll`], and a meter cannot
+/// be copied.
 #[derive(Drop, Debug)]
 pub struct SegMeter {
     segments: u64,
@@ -78,16 +80,18 @@ impl SegMeter {
 
     /// Counts one more segment.
     pub fn add_one(&mut self)
-        ensures { self.new ≡ counted self.old 1 }
+        ensures metered { self.new ≡ counted self.old 1 }
+        ensures never_lower { self.old ≤ self.new }
     {
         self.segments = one_more(self.segments);
     }
 }
 
-// The next count, or the same at the greatest.
+// The count plus one, or the same count at the greatest u64.
 #[tactic(auto, unfolding(crate::specs::Counting::counted, crate::specs::Counting::most))]
 pub(crate) fn one_more(count: u64) -> u64
-    ensures { result ≡ counted count 1 }
+    ensures next { result ≡ counted count 1 }
+    ensures never_lower { count ≤ result }
 {
     count.saturating_add(1)
 }

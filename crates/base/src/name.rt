@@ -1,4 +1,4 @@
-//! Names of file systems, snapshots, bookmarks and tags (zfs(8)), and their readers, which accept exactly the written names.
+//! Names of file systems, snapshots, bookmarks and tags (zfs(8)), and their readers, which accept exactly the names of their kind.
 
 mod checks;
 mod member;

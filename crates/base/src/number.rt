@@ -1,6 +1,6 @@
 //! Numbers of blocks, groups and snapshots, and the places of a tree.
 
-/// The number of a block of the pool, below its size.
+/// The number of a block of the pool. It is below the pool's size in blocks.
 #[derive(Clone, Copy, Default, PartialEq, Eq, PartialOrd, Ord, Hash, Debug)]
 pub struct BlockNo(pub u32);
 
@@ -9,7 +9,7 @@ pub struct BlockNo(pub u32);
 #[derive(Clone, Copy, Default, PartialEq, Eq, PartialOrd, Ord, Hash, Debug)]
 pub struct Group(pub u64);
 
-/// What names a snapshot across pools (zfsprops(7): guid).
+/// The identity of a snapshot across pools (zfsprops(7): guid).
 #[derive(Clone, Copy, PartialEq, Eq, PartialOrd, Ord, Hash, Debug)]
 pub struct Guid(pub u64);
 
@@ -21,7 +21,7 @@ pub struct Key {
     pub index: u32,
 }
 
-/// A block that a dataset has let go, by its number and birth.
+/// A block that a dataset no longer has, by its number and birth.
 #[derive(Clone, Copy, Default, PartialEq, Eq, PartialOrd, Ord, Hash, Debug)]
 pub struct Dead {
     pub block: BlockNo,

@@ -1,4 +1,4 @@
-//! Bytes as a value of their own.
+//! Byte strings that own their bytes, and comparisons of bytes.
 ghost use Rattle.std.specs.Prelude.{◌≡◌, ◌↔◌, IsTrue};
 ghost use Rattle.std.specs.Str.{bytes_eq};
 ghost use Rattle.base.specs.Names.{name_cmp};
@@ -6,13 +6,13 @@ ghost use Rattle.base.specs.Names.{name_cmp};
 use std::cmp::Ordering;
 use std::marker::Model;
 
-/// Any bytes, as those of a printed name. Contracts see the list of them.
+/// A byte string of any bytes, such as a printed name. Contracts see the list of the bytes.
 #[derive(Clone, Debug)]
 pub struct Bytes {
     items: Vec<u8>,
 }
 
-// By hand, so that it is proved once: a derived one is laid out anew in each crate that drops the type.
+// Written by hand, so that it is proved once: a derived one is expanded anew in each crate that drops the type.
 impl Drop for Bytes {
     fn drop(self) {
         let Bytes { items } = self;
@@ -74,8 +74,8 @@ impl Bytes {
     }
 }
 
-/// Whether these are the same bytes. It looks at the lengths first and then at the bytes from the last one on, since names of one pool begin
-/// alike: it costs what is the same at their ends.
+/// Whether these are the same bytes. It compares the lengths first, and then the bytes from the last one back to the first, since names of one
+/// pool begin alike. It costs the length of their common suffix.
 pub fn same_bytes(one: &[u8], other: &[u8]) -> bool
     ensures { result ≡ bytes_eq one.now other.now }
 {
@@ -92,10 +92,10 @@ pub fn same_bytes(one: &[u8], other: &[u8]) -> bool
     true
 }
 
-// Up to so many bytes a walk one by one costs less than one by groups (profile).
+// Up to this many bytes, a comparison byte by byte costs less than one by groups of bytes (profile).
 const SHORT: usize = 32;
 
-/// How these bytes compare, byte by byte from the first one on. It costs what they have in common there.
+/// Compares these bytes lexicographically. It costs the length of their common prefix.
 pub fn compare_bytes(one: &[u8], other: &[u8]) -> Ordering
     ensures { result ≡ name_cmp one.now other.now }
 {
@@ -114,7 +114,7 @@ pub fn compare_bytes(one: &[u8], other: &[u8]) -> Ordering
     one.len().cmp(&other.len())
 }
 
-// By groups of bytes. Kept apart, so that where names are short no caller grows by it.
+// Compares by groups of bytes. It is not inlined, so that it adds no code to the callers, whose names are mostly short.
 #[inline(never)]
 fn order(one: &[u8], other: &[u8]) -> Ordering
     ensures { result ≡ name_cmp one.now other.now }

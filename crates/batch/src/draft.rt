@@ -1,4 +1,4 @@
-//! What a change is to make, before any node of it is made.
+//! Drafts of changes, before any node is made.
 ghost use Rattle.std.specs.Prelude.{◌≡◌, ◌+◌, ◌^◌, ◌<◌, ◌≤◌, IfOk, IfErr, OnOk, length};
 ghost use Rattle.base.specs.Counting.{counted};
 ghost use Rattle.base.specs.declared.refusal.Refusal.{Refusal};
@@ -25,8 +25,8 @@ use std::alloc::Global;
 use std::sync::Arc;
 use zalloc::Allocator;
 
-/// A change before any node is made: whether it touches any key, how many blocks the tree will have, the blocks that go, the numbers
-/// that are taken, and the new blocks with their numbers, from the last key to the first.
+/// A change with its numbers chosen, before any node is made: whether it touches any key, how many blocks the tree will have, the blocks that it
+/// releases, the numbers to take, and the new blocks with their numbers, from the last key to the first.
 #[derive(Drop)]
 pub struct Draft {
     pub touched: bool,
@@ -37,7 +37,7 @@ pub struct Draft {
 }
 
 impl Lists {
-    /// The draft with these lists, on a root with so many blocks.
+    /// The draft with these lists, for a tree of `count` blocks.
     fn draft(self, touched: bool, count: u32) -> Draft
         requires few { length self.released.items ≤ count }
         requires fits { count + length self.taken.items < 2 ^ 31 + length self.released.items }
@@ -58,8 +58,9 @@ impl Lists {
     }
 }
 
-/// The draft of a batch on a root with so many blocks. NoSpace where the numbers are fewer than the new blocks, NoMemory where
-/// there is no memory. The meter rises by at least one for each block that goes; at `Err` it is at least never lower.
+/// The draft of a batch for a tree of `count` blocks. Blocks born from group `young` on are young: their numbers may be used for new blocks.
+/// NoSpace where there are too few numbers for the new blocks, NoMemory where there is no memory. The meter rises by at least one for each block
+/// that the change drops; at `Err` it is never lower.
 pub fn draft_of(
     alloc: Global,
     root: &Option<Arc<Root>>,

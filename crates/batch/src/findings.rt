@@ -1,4 +1,4 @@
-//! What a batch of changes does to a tree, before any of it is made.
+//! What a batch of changes does to a tree, found out before any node is made.
 ghost use Rattle.std.specs.Prelude.{◌≡◌, ℕ, suc, ◌+◌, ◌-◌, ◌*◌, ◌/◌, ◌^◌, ◌<◌, ◌≤◌, ◌++◌, ◌⊎◌, IfOk, OnOk, OnErr, IsTrue, Option, Some, None, true, false, slice_index_or, take, length, is_some, cond, if◌then◌else◌};
 ghost use Rattle.base.specs.Counting.{counted};
 ghost use Rattle.base.specs.declared.refusal.Refusal.{Refusal};
@@ -17,28 +17,28 @@ use node::{Inner, Leaf, Level, Root, span};
 use std::alloc::Global;
 use std::sync::Arc;
 
-/// A key that is made, with the block that stays in its place, if one does.
+/// A key for which a batch makes a block. `kept` is the key's present block, where the new one keeps its number.
 #[derive(Clone, Copy, Default, PartialEq, Eq, Debug)]
 pub struct Claim {
     pub key: Key,
     pub kept: Option<Dead>,
 }
 
-/// What a batch does to a part: whether it is touched, and whether it is present afterwards.
+/// What a batch does to a part of a tree: whether it is touched, and whether it is present afterwards.
 #[derive(Clone, Copy, PartialEq, Eq, Debug)]
 pub struct Fate {
     pub touched: bool,
     pub stays: bool,
 }
 
-/// The keys that are made and the blocks that are let go, from the last key to the first.
+/// The keys for which blocks are made, and the blocks that are released, each list from the last key to the first.
 #[derive(Drop)]
 pub struct Findings {
     pub claims: Vec<Claim>,
     pub released: Vec<Dead>,
 }
 
-/// The block, if it was born from a group on.
+/// The block, if it was born from group `young` on.
 pub(crate) fn if_young(own: Option<Dead>, young: Group) -> Option<Dead>
     ensures { result ≡ young_one young.0 own }
 {
@@ -54,7 +54,7 @@ pub(crate) fn if_young(own: Option<Dead>, young: Group) -> Option<Dead>
     }
 }
 
-/// Adds what becomes of a key and of its own block.
+/// Adds to the findings what becomes of a key with this fate, and of its present block `own`.
 fn close(
     own: Option<Dead>,
     key: Key,
@@ -82,7 +82,7 @@ fn close(
     Ok(())
 }
 
-/// The block of a part that may be absent. A node that is there is counted.
+/// The block of a node that may be absent. The meter counts a node that is there.
 #[tactic(auto, unfolding(base::specs::Counting::counted, base::specs::Counting::most))]
 fn block_of<C: Level>(old: Option<&C>, meter: &mut Meter) -> Option<Dead>
     ensures block { result ≡ own_block (part_of_node C.part old.entry) }
@@ -99,7 +99,7 @@ fn block_of<C: Level>(old: Option<&C>, meter: &mut Meter) -> Option<Dead>
     }
 }
 
-/// What stands at a place of a part that may be absent.
+/// The node at a place of a node that may be absent.
 fn kid_at<C: Level>(old: Option<&Inner<C>>, place: usize) -> Option<&C>
     requires { place < 16 }
     ensures { part_of_node C.part result ≡ slice_index_or (places_of (part_of_node (inner_part C.part) old.entry)) place None }
@@ -110,7 +110,7 @@ fn kid_at<C: Level>(old: Option<&Inner<C>>, place: usize) -> Option<&C>
     }
 }
 
-/// How many places a part has, also one that is absent.
+/// How many places a node has: 16, also where it is absent.
 fn place_count<C: Level>(old: Option<&Inner<C>>) -> u32
     ensures sixteen { result ≡ 16 }
     ensures all { length (places_of (part_of_node (inner_part C.part) old.entry)) ≡ 16 }
@@ -121,10 +121,10 @@ fn place_count<C: Level>(old: Option<&Inner<C>>) -> u32
     }
 }
 
-/// A level whose parts can be surveyed.
+/// A level whose nodes can be surveyed for what a batch does to them.
 pub trait Survey: Level {
-    /// Adds to the findings what a batch does to the part with an index among those of its level. The meter rises by at least one for
-    /// each block whose key is touched.
+    /// Adds to the findings what a batch does to a node and to those below it. The node is given by its level, and by its index among the nodes
+    /// of that level. The meter rises by at least one for each block whose key is touched.
     fn survey(
         old: Option<&Self>,
         level: u8,
@@ -147,8 +147,8 @@ pub trait Survey: Level {
         ensures never_lower { meter.old ≤ meter.new }
         ensures err { OnErr result (result ≡ Err Refusal.NoMemory) };
 
-    /// Puts the blocks that the keys on the way to a leaf have, each at its level, from this part's down. It looks at no other part, so
-    /// at one a level. The meter rises by at least one for each block.
+    /// Sets `blocks` to the present blocks of the keys on the path to a leaf, indexed by level, from this node's level down. It reaches only the
+    /// nodes on the path, one for each level. The meter rises by at least one for each block.
     fn blocks_to(
         old: Option<&Self>,
         level: u8,
@@ -188,7 +188,7 @@ fn leaf_fate(old: Option<&Leaf>, index: u32, updates: &[Update]) -> Fate
     }
 }
 
-/// What becomes of a key, by what becomes of those below it.
+/// What becomes of a key, given what becomes of the keys below it.
 fn fate_above(below: Fate, present: bool) -> Fate
     ensures { result ≡ record { touched = below.touched; stays = cond below.touched below.stays present } }
 {
@@ -236,8 +236,8 @@ impl Survey for Leaf {
     }
 }
 
-/// Adds to the findings what a batch does to the places of a part, from the last to the first. The places have a level, and the
-/// indices from one on.
+/// Adds to the findings what a batch does at the places of a node, from the last place to the first. The nodes at the places have this level,
+/// and their indices begin at `first`.
 fn survey_kids<C: Survey>(
     old: Option<&Inner<C>>,
     level: u8,
@@ -276,7 +276,7 @@ fn survey_kids<C: Survey>(
     Ok(Fate { touched, stays })
 }
 
-/// Whether a part stays of which one place alone is on the way of a batch, by whether what is on the way does.
+/// Whether a node stays, where a batch changes nothing below it but at one place. `stays` says whether the node at that place stays.
 fn stays_beside<C: Level>(stays: bool, old: Option<&Inner<C>>, place: u32) -> bool
     ensures stays { IsTrue result → IsTrue stays ⊎ HasOther place (places_of (part_of_node (inner_part C.part) old.entry)) }
     ensures goes { result ≡ false → stays ≡ false }
@@ -293,8 +293,7 @@ fn stays_beside<C: Level>(stays: bool, old: Option<&Inner<C>>, place: u32) -> bo
     false
 }
 
-/// Adds to the findings what a batch does below a part. Where the batch writes or punches one leaf, what stands beside the way to it isn't
-/// surveyed.
+/// Adds to the findings what a batch does below a node. Where the batch writes or punches a single leaf, only the path to that leaf is surveyed.
 fn survey_below<C: Survey>(
     old: Option<&Inner<C>>,
     level: u8,
@@ -388,7 +387,7 @@ pub(crate) fn root_of(root: &Option<Arc<Root>>) -> Option<&Root>
     }
 }
 
-/// What a batch does to a root, with room for so many new blocks at first, and whether it touches any key.
+/// What a batch does to a tree, and whether it touches any key. `room` is how many new blocks there is room for at first.
 pub(crate) fn findings_of(
     alloc: Global,
     root: &Option<Arc<Root>>,

@@ -18,7 +18,7 @@ use node::Root;
 use std::alloc::Global;
 use std::sync::Arc;
 
-/// What a change would do: the blocks that the keys have now which it touches, and how many keys it would make.
+/// What a change would do: `dropped` are the present blocks of the keys that it touches, and `made` is how many blocks it would make.
 #[derive(Drop)]
 pub struct Forecast {
     pub dropped: Vec<Dead>,
@@ -38,9 +38,8 @@ fn add_kept(claims: &[Claim], dropped: &mut Vec<Dead>) -> Result<(), Refusal>
     Ok(())
 }
 
-/// What a batch would do to a root. NoMemory where there is none for the lists. It costs the nodes on the way to the changes, each with
-/// its sixteen places. The meter counts these nodes: it rises by at least one for each block that the change drops, and at `Err` is never
-/// lower.
+/// What a batch would do to a tree. NoMemory where there is none for the lists. It costs the nodes on the paths to the changes, each with its
+/// sixteen places. The meter counts these nodes: it rises by at least one for each block that the change drops, and at `Err` is never lower.
 pub fn forecast_of(
     alloc: Global,
     root: &Option<Arc<Root>>,

@@ -1,5 +1,5 @@
-//! Batches of updates, and what one does to a tree before any node is made: which keys are touched, which blocks go, and which
-//! numbers the new blocks have.
+//! Batches of updates, and their drafts: which keys a batch touches, which blocks it releases, and which numbers the new blocks have, before any
+//! node is made.
 #![tactic(auto)]
 
 mod draft;

@@ -14,21 +14,21 @@ use base::refusal::Refusal;
 use std::alloc::Global;
 use zalloc::Allocator;
 
-/// A new block of a change: its key, and the number that it has.
+/// A new block of a change: its key and its number.
 #[derive(Clone, Copy, Default, PartialEq, Eq, Debug)]
 pub struct NewBlock {
     pub key: Key,
     pub block: BlockNo,
 }
 
-/// How many claims keep no block.
+/// How many claims keep no block, and so need a number.
 pub fn fresh_count(claims: &[Claim]) -> usize
     ensures { result ≡ count_by is_fresh claims.now }
 {
     claims.iter().filter(|claim| claim.kept.is_none()).count()
 }
 
-/// Adds the numbers of the blocks that were born from a group on, up to so many in all.
+/// Adds to `out` the numbers of the released blocks that were born from group `young` on, until `out` has `need` numbers.
 fn reuse(
     released: &[Dead],
     young: Group,
@@ -50,7 +50,7 @@ fn reuse(
     Ok(())
 }
 
-/// Adds the Free numbers from one on in turn, up to so many in all.
+/// Adds to `out` the Free numbers from `first` on, in order, until `out` has `need` numbers.
 fn take_free(
     allocator: &Allocator,
     first: u32,
@@ -72,7 +72,7 @@ fn take_free(
     Ok(())
 }
 
-/// So many numbers for new blocks: those of young blocks that are let go, and then Free ones.
+/// `need` numbers for new blocks: those of released blocks that are young, and then Free ones. NoSpace where there are too few.
 pub fn choose(
     alloc: Global,
     allocator: &Allocator,
@@ -98,7 +98,7 @@ pub fn choose(
     Ok(out)
 }
 
-/// The claims with their numbers.
+/// The new blocks of these claims. A claim with a kept block has that block's number, and the others have the taken numbers in order.
 pub fn fill(alloc: Global, claims: &[Claim], taken: &[BlockNo]) -> Result<Vec<NewBlock>, Refusal>
     requires { length taken.now ≡ count_by is_fresh claims.now }
     ensures ok { IfOk result (λ v. v.items ≡ filled claims.now taken.now) }

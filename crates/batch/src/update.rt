@@ -1,4 +1,4 @@
-//! What a batch of changes says.
+//! The updates of a batch, and what they do to a leaf.
 ghost use Rattle.std.specs.Prelude.{◌≡◌, ℕ, count_by, ◌+◌, ◌-◌, ◌*◌, ◌/◌, ◌<◌, ◌≤◌, ◌==◌, Bool, IsTrue, IfSome, IfNone, Some, slice_get, length, slice_index, false};
 ghost use Rattle.std.specs.List.{list_any};
 ghost use Rattle.base.specs.Key.{IsKey, covers};
@@ -9,8 +9,8 @@ ghost use Rattle.batch.specs.Word.{word_said};
 use base::number::Key;
 use node::span;
 
-/// One entry of a batch (On-Disk Specification, chapter 3: blocks of an object are written and freed). It takes a few words, also where
-/// it writes: the bytes of the leaf are lent.
+/// One entry of a batch (On-Disk Specification, chapter 3: blocks of an object are written and freed). It takes only a few words, since the
+/// bytes of a written leaf are borrowed.
 #[derive(Clone, Copy)]
 pub enum Update<'a> {
     /// Writes a leaf.
@@ -19,14 +19,14 @@ pub enum Update<'a> {
     Punch(Key),
 }
 
-/// What a batch says of one leaf.
+/// What a batch does to one leaf.
 #[derive(Clone, Copy)]
 pub enum Word<'a> {
     /// Nothing.
     Silent,
-    /// That it becomes a hole.
+    /// Makes it a hole.
     Hole,
-    /// Its new bytes.
+    /// Writes these bytes.
     Full(&'a [u8; 512]),
 }
 
@@ -75,18 +75,18 @@ impl Update<'_> {
     }
 }
 
-/// The bytes of a leaf are 512 octets.
+/// The size of a leaf's bytes. The contract says that they are 512 octets.
 fn size_of(bytes: &[u8; 512]) -> usize
     ensures size { result ≡ 512 }
     ensures full { length bytes.now ≡ 512 }
     ensures octets { (i : ℕ) → slice_index bytes.now i < 256 }
 {
-    // what is read is known to be octets
+    // for the prover: a byte that is read is known to be an octet
     let _first = bytes[0];
     bytes.len()
 }
 
-/// How many updates write. Contracts learn that what is written are 512 octets.
+/// How many updates write. The contract also says that each of these writes 512 octets.
 pub fn write_count(updates: &[Update]) -> usize
     ensures count { result ≡ count_by is_write updates.now }
     ensures sized { AreSized updates.now }
@@ -104,7 +104,7 @@ pub fn write_count(updates: &[Update]) -> usize
     count
 }
 
-/// The one leaf that updates speak of, and whether they write it.
+/// The single leaf that the updates write or punch, and whether they write it. None where there is no such leaf.
 pub(crate) fn one_leaf(updates: &[Update]) -> Option<(u32, bool)>
     ensures one { IfSome result (λ r. IsOneLeaf (said updates.now) r.0 r.1) }
     ensures within { AreInOrder updates.now → IfSome result (λ r. r.0 < 1048576) }
@@ -125,16 +125,16 @@ pub(crate) fn one_leaf(updates: &[Update]) -> Option<(u32, bool)>
     }
 }
 
-/// A place of a part, on the way to the one leaf that updates speak of.
+/// A place of a node, on the path to the single leaf that updates write or punch.
 #[derive(Clone, Copy, PartialEq, Eq, Debug)]
 pub struct Way {
     pub place: u32,
-    /// Whether they write the leaf.
+    /// Whether the updates write the leaf, and don't punch it.
     pub writes: bool,
 }
 
-/// The place below a part on the way to the one leaf that the updates speak of, if there is such a leaf below that part. The part
-/// has a level, and an index there.
+/// The place of a node on the path to the single leaf that the updates write or punch. None where there is no such leaf below the node. The node
+/// is given by its level, and by its index among the nodes of that level.
 pub fn way_of(updates: &[Update], level: u8, index: u32) -> Option<Way>
     requires deep { 0 < level }
     requires low { level ≤ 5 }
@@ -155,7 +155,7 @@ pub fn way_of(updates: &[Update], level: u8, index: u32) -> Option<Way>
     }
 }
 
-/// What the updates say of a leaf.
+/// What the updates do to a leaf.
 pub fn word_of<'a>(updates: &[Update<'a>], leaf: u32) -> Word<'a>
     requires { AreInOrder updates.now }
     ensures { word_said result ≡ said updates.now leaf }
@@ -184,7 +184,7 @@ fn any_writes(updates: &[Update]) -> bool
     updates.iter().any(|update| update.writes())
 }
 
-/// Whether the updates do nothing to a part that is present or not. Where it is absent, a punch does nothing.
+/// Whether the updates do nothing to a part of a tree, which is present or absent. A punch does nothing to an absent part.
 pub fn is_idle(updates: &[Update], present: bool) -> bool
     ensures idle { IsTrue result → IsIdle (said updates.now) present }
     ensures only { AreInOrder updates.now → IsIdle (said updates.now) present → IsTrue result }
@@ -196,7 +196,7 @@ pub fn is_idle(updates: &[Update], present: bool) -> bool
     }
 }
 
-/// How many of the updates end by a leaf. It looks from the last one on.
+/// How many of the updates cover only leaves before this one. It searches from the last update back.
 fn count_before(updates: &[Update], leaf: u32) -> usize
     requires { AreInOrder updates.now }
     ensures within { result ≤ length updates.now }
@@ -212,7 +212,7 @@ fn count_before(updates: &[Update], leaf: u32) -> usize
     0
 }
 
-/// The updates that reach past the beginning of a leaf, and those that begin before it. One that does both is in both.
+/// The updates that cover this leaf or a later one, and the updates that cover an earlier leaf. An update that does both is in both slices.
 pub fn split_at_leaf<'s, 'a>(
     updates: &'s [Update<'a>],
     leaf: u32,

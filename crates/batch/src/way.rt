@@ -1,4 +1,4 @@
-//! What the write of one leaf alone does to the keys on the way to it.
+//! What the write of a single leaf does to the keys on the path to it.
 ghost use Rattle.std.specs.Prelude.{◌≡◌, ℕ, ◌+◌, ◌<◌, ◌≤◌, ◌++◌, IfOk, IfErr, IfSome, IfNone, OnOk, OnErr, List, [], ◌∷◌, length, count_by, true};
 ghost use Rattle.std.specs.List.{filter_map};
 ghost use Rattle.base.specs.Counting.{counted};
@@ -25,11 +25,11 @@ use std::alloc::Global;
 use std::sync::Arc;
 use zalloc::Allocator;
 
-/// How many keys are on the way to a leaf: its own, and one at each of the five levels above (On-Disk Specification, chapter 3; the number is
+/// How many keys are on the path to a leaf: its own, and one at each of the five levels above (On-Disk Specification, chapter 3; the number is
 /// profile).
 pub(crate) const WAY: usize = 6;
 
-/// The blocks that go, the numbers that are taken, and the new blocks with their numbers, from the last key to the first.
+/// The blocks that are released, the numbers to take, and the new blocks with their numbers, from the last key to the first.
 #[derive(Drop)]
 pub(crate) struct Lists {
     pub released: Vec<Dead>,
@@ -37,8 +37,9 @@ pub(crate) struct Lists {
     pub made: Vec<NewBlock>,
 }
 
-/// The leaf that updates write, where they are the write of one leaf alone: puts the blocks of the keys on the way to it, each at its
-/// level. The meter rises by at least one for each. None for any other updates, which put nothing and count nothing.
+/// If the updates are the write of a single leaf, answers that leaf, and sets `blocks` to the present blocks of the keys on the path to it,
+/// indexed by level. The meter rises by at least one for each of these blocks. None for any other updates; then `blocks` and the meter are
+/// unchanged.
 pub(crate) fn way_of_write(
     root: &Option<Arc<Root>>,
     updates: &[Update],
@@ -64,7 +65,7 @@ pub(crate) fn way_of_write(
     Some(leaf)
 }
 
-/// Adds to a list that has one item for each key of the way at most. It asks for memory once.
+/// Adds to a list of at most one item for each key of a path. The first item reserves memory for all of them.
 fn push_of_way<T: Copy>(list: &mut Vec<T>, item: T) -> Result<(), Refusal>
     ensures items { OnOk result (list.new.items ≡ list.old.items ++ item ∷ []) }
     ensures err { OnErr result (result ≡ Err Refusal.NoMemory) }
@@ -77,8 +78,8 @@ fn push_of_way<T: Copy>(list: &mut Vec<T>, item: T) -> Result<(), Refusal>
 }
 
 impl Lists {
-    /// Adds a key on the way to a leaf that is written: with the number of its own block where that is young, and else with the first Free
-    /// number from one on. Gives the number from which the next one is looked for.
+    /// Adds a key on the path to a leaf that is written. Its new block has the number of its block `own` where that is young, and else the first
+    /// Free number from `from` on; then `own` is released. Answers the number from which to search for the next one.
     fn add(
         &mut self,
         key: Key,
@@ -111,8 +112,8 @@ impl Lists {
     }
 }
 
-/// The keys on the way to a leaf that is written, with the numbers of their new blocks, by the blocks that they have. NoSpace where there
-/// are too few Free numbers.
+/// The lists for the keys on the path to a leaf that is written. `blocks` are the blocks that the keys have now, indexed by level. NoSpace where
+/// there are too few Free numbers.
 pub(crate) fn number_way(
     alloc: Global,
     blocks: &[Option<Dead>; 6],
@@ -140,7 +141,7 @@ pub(crate) fn number_way(
     Ok(lists)
 }
 
-/// The blocks of the keys on the way to a leaf, in a list.
+/// The blocks that are present on the path to a leaf, as a list.
 pub(crate) fn present(alloc: Global, blocks: &[Option<Dead>; 6]) -> Result<Vec<Dead>, Refusal>
     ensures ok { IfOk result (λ v. v.items ≡ filter_map (λ o. o) blocks.now) }
     ensures err { OnErr result (result ≡ Err Refusal.NoMemory) }

@@ -207,6 +207,7 @@ impl FileSystems {
         ensures ok { OnOk result ((p : Promotion) → IsPromotion self.old name.now p → self.new ≡ promoted_in self.old name.now p) }
         ensures err { OnErr result (self.new ≡ self.old) }
         ensures only { IfErr result (λ e. e ≡ Refusal.NoMemory) }
+        ensures never_lower { segments.old ≤ segments.new }
     {
         let Ok(place) = place_near(&self.rows, self.near, name.as_bytes()) else {
             unreachable!()
@@ -254,6 +255,7 @@ impl FileSystems {
         ensures only { IfErr result (λ e. (e ≡ Refusal.NoDataset) ⊎ IsNoSpaceOrNoMemory e) }
         ensures metered { OnOk result (CountsDropped (live_of self.old name.now) (changes_of updates.now) meter.old meter.new) }
         ensures never_lower { meter.old ≤ meter.new }
+        ensures segments_never_lower { segments.old ≤ segments.new }
     {
         let Ok(place) = place_near(&self.rows, self.near, name.as_bytes()) else {
             return Err(Refusal::NoDataset);
@@ -310,6 +312,7 @@ impl FileSystems {
         ensures lost { IfOk result (λ d. Lists (map dead_block d.entries) (lost_from (blocks (below_at self.old name.now)) (snaps_at self.old name.now) (live_of self.old name.now) group.0)) }
         ensures err { OnErr result (self.new ≡ self.old) }
         ensures only { IfErr result (λ e. e ≡ Refusal.NoMemory) }
+        ensures never_lower { segments.old ≤ segments.new }
     {
         let Ok(place) = place_near(&self.rows, self.near, name.as_bytes()) else {
             unreachable!()
@@ -423,6 +426,7 @@ impl FileSystems {
         ensures lost { IfOk result (IsLost (blocks (below_at self.old name.now)) (origin_group (origin_at self.old name.now)) (live_of self.old name.now) (snaps_at self.old name.now)) }
         ensures err { OnErr result (self.new ≡ self.old) }
         ensures only { IfErr result (λ e. e ≡ Refusal.NoMemory) }
+        ensures never_lower { segments.old ≤ segments.new }
     {
         let Ok(place) = place_near(&self.rows, self.near, name.as_bytes()) else {
             unreachable!()

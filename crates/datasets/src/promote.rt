@@ -1,5 +1,5 @@
 //! The promote of a clone in the rows of a list of file systems.
-ghost use Rattle.std.specs.Prelude.{◌≡◌, ◌≢◌, ◌<◌, IfErr, OnOk, OnErr, map, length};
+ghost use Rattle.std.specs.Prelude.{◌≡◌, ◌≢◌, ◌≤◌, ◌<◌, IfErr, OnOk, OnErr, map, length};
 ghost use Rattle.std.specs.Arc.{arc_value};
 ghost use Rattle.base.specs.declared.refusal.Refusal.{Refusal};
 ghost use Rattle.model.specs.Ids.{snap_id};
@@ -37,6 +37,7 @@ pub(crate) fn promote_at(
     ensures rows_stay { OnErr result (map arc_value rows.new ≡ map arc_value rows.old) }
     ensures clones_stay { OnErr result (clones.new ≡ clones.old) }
     ensures only { IfErr result (λ e. e ≡ Refusal.NoMemory) }
+    ensures never_lower { segments.old ≤ segments.new }
 {
     if place < other {
         let (low, high) = rows.split_at_mut(other);
@@ -77,6 +78,7 @@ fn promote_row(
     ensures owner_stays { OnErr result (arc_value owner.new ≡ arc_value owner.old) }
     ensures clones_stay { OnErr result (clones.new ≡ clones.old) }
     ensures only { IfErr result (λ e. e ≡ Refusal.NoMemory) }
+    ensures never_lower { segments.old ≤ segments.new }
 {
     let (line, owner_line) = clone.promotion(alloc, owner, origin, segments)?;
     let clone = own(clone, alloc)?;

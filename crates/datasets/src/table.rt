@@ -266,6 +266,7 @@ impl Table {
         ensures ok { IfSome (promotion_of (world_of self.old) name.now) (λ p. OnOk result (self.new ≡ with_promoted self.old name.now p)) }
         ensures err { OnErr result (self.new ≡ self.old) }
         ensures only { IfErr result (λ e. e ≡ Refusal.NoMemory) }
+        ensures never_lower { segments.old ≤ segments.new }
     {
         self.systems.promote(alloc, name, segments)
     }
@@ -308,6 +309,7 @@ impl Table {
         ensures only { IfErr result (λ e. (e ≡ Refusal.NoDataset) ⊎ IsNoSpaceOrNoMemory e) }
         ensures metered { OnOk result (CountsDropped (live_of self.old.file_systems name.now) (changes_of updates.now) meter.old meter.new) }
         ensures never_lower { meter.old ≤ meter.new }
+        ensures segments_never_lower { segments.old ≤ segments.new }
     {
         let group = self.group;
         self.systems.apply_live(
@@ -384,6 +386,7 @@ impl Table {
         ensures no_dataset { (result ≡ Err Refusal.NoDataset) ↔ (snap_in_system self.old file_system.now (snap_id id) ≡ None) }
         ensures err { OnErr result (self.new ≡ self.old) }
         ensures only { IfErr result (λ e. (e ≡ Refusal.NoDataset) ⊎ (e ≡ Refusal.NoMemory)) }
+        ensures never_lower { segments.old ≤ segments.new }
     {
         if !self.has_snapshot_in(file_system, id) {
             return Err(Refusal::NoDataset);
@@ -484,6 +487,7 @@ impl Table {
         ensures no_dataset { (result ≡ Err Refusal.NoDataset) ↔ (length (snaps_at self.old.file_systems name.now) ≡ 0) }
         ensures err { OnErr result (self.new ≡ self.old) }
         ensures only { IfErr result (λ e. (e ≡ Refusal.NoDataset) ⊎ (e ≡ Refusal.NoMemory)) }
+        ensures never_lower { segments.old ≤ segments.new }
     {
         if self.snapshots_of(name) == 0 {
             return Err(Refusal::NoDataset);

@@ -18,14 +18,14 @@ use base::refusal::Refusal;
 use std::alloc::{AllocError, Global};
 use std::marker::Model;
 
-/// Blocks that a dataset has let go and the dataset before it still has, with their births (On-Disk Specification, chapter 4:
-/// dead lists), in segments: a cut at a group divides the entries born by it from those born after it. The cuts rise, and the
-/// last segment is open upwards.
+/// The blocks that a dataset no longer has and the dataset before it still has, with their births (On-Disk Specification, chapter 4: dead
+/// lists). Cuts divide the list into segments: a cut at a group divides the entries born by that group from those born after it. The cuts rise,
+/// and the last segment has no upper cut.
 ///
-/// The entries of the last segment stand in order of birth, in runs of which each is more than twice as long as the next one; so any
-/// group divides it in about the square of the logarithm of its entries. New entries wait behind the segments, 64 at most once a `reserve`
-/// has sorted in more, or an `append`. A copy shares the runs, so that it costs the segments and the entries that wait. No entry was born
-/// before `low`, and none after `high`: a group that has all on one side reaches none.
+/// The entries of the last segment are in order of birth, in runs of which each is more than twice as long as the next one. So dividing it at
+/// any group costs about the square of the logarithm of its entries. New entries wait behind the segments; at most 64 wait after an `append`, or
+/// after a `reserve` that has sorted entries in. A copy shares the runs, so that it costs the segments and the waiting entries. No entry was
+/// born before `low`, and none after `high`, so that a count at a group that has all entries on one side looks into no segment.
 pub struct Deadlist {
     parts: Parts,
     count: u64,
@@ -35,7 +35,7 @@ pub struct Deadlist {
     alloc: Global,
 }
 
-// By hand, so that it is proved once: a derived one is laid out anew in each crate that drops the type.
+// Written by hand, so that it is proved once: a derived one is expanded anew in each crate that drops the type.
 impl Drop for Deadlist {
     fn drop(self) {
         let Deadlist {
@@ -86,13 +86,14 @@ impl Deadlist {
         }
     }
 
-    /// An equal list. It costs the segments with their runs, which it shares, and the entries that wait; the meter counts all segments,
-    /// also at an error. NoMemory where memory is refused.
+    /// An equal list, which shares the runs. It costs the segments with their runs, and the waiting entries. The meter counts all segments, also
+    /// at an error. NoMemory where memory is refused.
     pub fn copy(&self, meter: &mut SegMeter) -> Result<Deadlist, Refusal>
         ensures entries { IfOk result (λ d. d.entries ≡ self.now.entries) }
         ensures cuts { IfOk result (λ d. d.cuts ≡ self.now.cuts) }
         ensures err { IfErr result (λ e. e ≡ NoMemory) }
         ensures meter { meter.new ≡ counted meter.old (length self.now.cuts + 1) }
+        ensures never_lower { meter.old ≤ meter.new }
     {
         reach(meter, self.segments());
         let parts = self.parts.copy(self.alloc)?;
@@ -107,9 +108,9 @@ impl Deadlist {
         })
     }
 
-    /// Makes room for that many pushes, until another call that changes the list. Once 64 entries were put in, or as many as the list
-    /// has segments, it also sorts these in, each by a binary search over the cuts, and where runs become one it costs their entries; the
-    /// meter then counts all segments. NoMemory where memory is refused, and then nothing is changed.
+    /// Makes room for that many pushes, until another call that changes the list. Once at least 64 entries wait, and at least as many as the
+    /// list has segments, it also sorts these in: each costs a binary search over the cuts, and runs that are merged cost their entries. Then
+    /// the meter counts all segments. NoMemory where memory is refused, and then nothing is changed.
     pub fn reserve(&mut self, n: usize, meter: &mut SegMeter) -> Result<(), Refusal>
         ensures entries { IsPermutation self.old.entries self.new.entries }
         ensures cuts { self.new.cuts ≡ self.old.cuts }
@@ -117,9 +118,10 @@ impl Deadlist {
         ensures unchanged { OnErr result (self.new ≡ self.old) }
         ensures err { IfErr result (λ e. e ≡ NoMemory) }
 
-        // It reaches no segment, and the entries stand as they stood, or it reaches all.
+        // Either it reaches no segment, and the entries keep their order, or it reaches all segments.
         ensures meter { ((meter.new ≡ meter.old) × (self.new.entries ≡ self.old.entries))
             ⊎ (meter.new ≡ counted meter.old (length self.old.cuts + 1)) }
+        ensures never_lower { meter.old ≤ meter.new }
     {
         if n as u64 > u64::MAX - self.count {
             return Err(Refusal::NoMemory);
@@ -134,7 +136,7 @@ impl Deadlist {
         Ok(())
     }
 
-    // Sorts the new entries into their segments, and makes room for that many pushes.
+    // Sorts the waiting entries into their segments, and makes room for that many pushes.
     fn sort(&mut self, n: usize) -> Result<(), AllocError>
         requires { n + length self.old.entries < 2 ^ 64 }
         ensures entries { IsPermutation self.old.entries self.new.entries }
@@ -149,7 +151,7 @@ impl Deadlist {
         Ok(())
     }
 
-    /// Puts an entry into the list, for which a `reserve` made room. It takes no memory, and costs the same in every list.
+    /// Adds an entry. A `reserve` must have made room for it. It takes no memory. Constant time.
     pub fn push_reserved(&mut self, dead: Dead)
         requires { 0 < self.old.room }
         ensures entries { self.new.entries ≡ self.old.entries ++ dead ∷ [] }
@@ -162,8 +164,8 @@ impl Deadlist {
         self.high = self.high.max(dead.birth.0);
     }
 
-    /// Puts in those of these entries that were born by the cut, in their order, for which a `reserve` made room. It takes no memory, and
-    /// costs the number of these entries.
+    /// Adds those of these entries that were born by the cut, in their order. A `reserve` must have made room for them. It takes no memory, and
+    /// costs the number of all these entries.
     pub fn push_upto(&mut self, entries: &[Dead], cut: Group)
         requires { length (filter (is_upto cut.0) entries.now) ≤ self.old.room }
         ensures entries { self.new.entries ≡ self.old.entries ++ filter (is_upto cut.0) entries.now }
@@ -176,9 +178,10 @@ impl Deadlist {
         }
     }
 
-    /// Adds the other's entries and cuts: whole segments where the cuts agree, else their entries by a binary search each. It costs the
-    /// segments of both with their runs, and the entries that wait, which are sorted in where they are 64; and where runs become one, these.
-    /// The meter counts the segments of both. NoMemory where memory is refused, and then the other is handed back, and both are unchanged.
+    /// Adds the other list's entries and cuts: whole segments where the cuts agree, and else each entry by a binary search. It costs the
+    /// segments of both lists with their runs, the waiting entries, which are sorted in where there are 64 or more, and the entries of runs that
+    /// are merged. The meter counts the segments of both. NoMemory where memory is refused; then the other list is handed back, and both are
+    /// unchanged.
     pub fn append(
         &mut self,
         other: Deadlist,
@@ -192,6 +195,7 @@ impl Deadlist {
         ensures err { IfErr result (λ e. e.0 ≡ NoMemory) }
         ensures meter { meter.new
             ≡ counted meter.old ((length self.old.cuts + 1) + (length other.cuts + 1)) }
+        ensures never_lower { meter.old ≤ meter.new }
     {
         reach(meter, self.segments());
         reach(meter, other.segments());
@@ -201,7 +205,7 @@ impl Deadlist {
         }
     }
 
-    // The same, of another that stays.
+    // Adds the other list's entries and cuts; the other list stays as it is. On an error nothing is changed.
     fn joined(&mut self, other: &Deadlist) -> Result<(), AllocError>
         ensures entries { OnOk result
             (IsPermutation (self.old.entries ++ other.now.entries) self.new.entries) }
@@ -212,7 +216,7 @@ impl Deadlist {
         Ok(())
     }
 
-    // The same entries, where no more than a few wait.
+    // The same list, with the waiting entries sorted in where there are 64 or more.
     fn with_few_waiting(mut self) -> Result<Deadlist, AllocError>
         ensures entries { IfOk result (λ d. IsPermutation self.entries d.entries) }
         ensures cuts { IfOk result (λ d. d.cuts ≡ self.cuts) }
@@ -223,7 +227,7 @@ impl Deadlist {
         Ok(self)
     }
 
-    // A list of both, where all that waits in either waits.
+    // A list with the entries and cuts of both. The waiting entries of both wait in it.
     fn both(&self, other: &Deadlist) -> Result<Deadlist, AllocError>
         ensures entries { IfOk result
             (λ d. IsPermutation (self.now.entries ++ other.now.entries) d.entries) }
@@ -247,9 +251,9 @@ impl Deadlist {
         })
     }
 
-    /// Takes out the entries born after the cut, and keeps the others; each list has the cuts on its side. It costs the segments that end
-    /// after the cut, which the meter counts, a search in each run of the segment that the cut divides, and the entries that wait, and now
-    /// and then a copy of the fewer of a run's two parts. NoMemory where memory is refused, and then nothing is changed.
+    /// Removes the entries born after the cut, and answers them as a list; each of the two lists has the cuts on its side. It costs the segments
+    /// that end after the cut, which the meter counts, a search in each run of the segment that the cut divides, the waiting entries, and
+    /// sometimes a copy of the smaller of a run's two parts. NoMemory where memory is refused, and then nothing is changed.
     pub fn take_after(&mut self, cut: Group, meter: &mut SegMeter) -> Result<Deadlist, Refusal>
         ensures kept { OnOk result (self.new.entries ≡ filter (is_upto cut.0) self.old.entries) }
         ensures kept_cuts { OnOk result (self.new.cuts ≡ filter (λ c. nat_le c cut.0) self.old.cuts) }
@@ -259,6 +263,7 @@ impl Deadlist {
         ensures unchanged { OnErr result (self.new ≡ self.old) }
         ensures err { IfErr result (λ e. e ≡ NoMemory) }
         ensures meter { meter.new ≡ counted meter.old (reached_after cut.0 self.old.cuts) }
+        ensures never_lower { meter.old ≤ meter.new }
     {
         let count = self.space_after(cut, meter);
         let (kept, taken) = dealt(self.alloc, self.fresh.as_slice(), cut.0)?;
@@ -277,12 +282,13 @@ impl Deadlist {
         })
     }
 
-    /// How many entries were born after the cut, in blocks: from the segments' sizes, and where the cut doesn't stand also from the
-    /// segment that it divides. It costs the segments that end after the cut, which the meter counts, and where some entries were born
-    /// by the cut and some after it, a search in each run of that segment and the entries that wait.
+    /// How many entries were born after the cut, which is their space in blocks. It adds the segments' sizes; where the list doesn't have this
+    /// cut, it also counts in the segment that the cut divides. It costs the segments that end after the cut, which the meter counts. Where some
+    /// entries were born by the cut and some after it, it also costs a search in each run of that segment, and the waiting entries.
     pub fn space_after(&self, cut: Group, meter: &mut SegMeter) -> u64
         ensures space { result ≡ length (filter (is_after cut.0) self.now.entries) }
         ensures meter { meter.new ≡ counted meter.old (reached_after cut.0 self.now.cuts) }
+        ensures never_lower { meter.old ≤ meter.new }
     {
         reach(meter, self.parts.reached_after(cut.0));
         self.count_after(cut.0)
@@ -302,12 +308,14 @@ impl Deadlist {
         self.parts.sum_after(cut) + count_in(self.fresh.as_slice(), cut)
     }
 
-    /// How many entries were born by the cut, in blocks: from the segments' sizes, and where the cut doesn't stand also from the segment
-    /// that it divides. It costs the segments that end by the cut and that one, which the meter counts, and where some entries were born
-    /// by the cut and some after it, a search in each run of that segment and the entries that wait.
+    /// How many entries were born by the cut, which is their space in blocks. It adds the segments' sizes; where the list doesn't have this cut,
+    /// it also counts in the segment that the cut divides. It costs the segments that end at the cut or before it and the divided one, which the
+    /// meter counts. Where some entries were born by the cut and some after it, it also costs a search in each run of the divided segment, and
+    /// the waiting entries.
     pub fn space_upto(&self, cut: Group, meter: &mut SegMeter) -> u64
         ensures space { result ≡ length (filter (is_upto cut.0) self.now.entries) }
         ensures meter { meter.new ≡ counted meter.old (reached_upto cut.0 self.now.cuts) }
+        ensures never_lower { meter.old ≤ meter.new }
     {
         reach(meter, self.parts.reached_upto(cut.0));
         self.count_upto(cut.0)
@@ -328,21 +336,23 @@ impl Deadlist {
         self.parts.sum_upto(cut) + (fresh.len() as u64 - count_in(fresh, cut))
     }
 
-    /// The entries, segment by segment, and then those that no `reserve` has sorted in yet. The meter counts all segments at once,
-    /// however many of the entries are then asked for.
+    /// The entries, segment by segment, and then the waiting ones, which aren't sorted in yet. The meter counts all segments at once, however
+    /// many entries are then read.
     pub fn iter(&self, meter: &mut SegMeter) -> Iter<'_>
         ensures entries { left result ≡ self.now.entries }
         ensures meter { meter.new ≡ counted meter.old (length self.now.cuts + 1) }
+        ensures never_lower { meter.old ≤ meter.new }
     {
         reach(meter, self.segments());
         Iter::new(&self.parts, self.fresh.as_slice())
     }
 
-    /// The entries of `iter` without that many of the first. It costs a step for each segment and each run that it passes. The meter
-    /// counts all segments at once.
+    /// The entries of `iter` without the first `first` ones. It costs a step for each segment and each run that it skips. The meter counts all
+    /// segments at once.
     pub fn iter_from(&self, first: u64, meter: &mut SegMeter) -> Iter<'_>
         ensures entries { left result ≡ drop first self.now.entries }
         ensures meter { meter.new ≡ counted meter.old (length self.now.cuts + 1) }
+        ensures never_lower { meter.old ≤ meter.new }
     {
         let mut entries = self.iter(meter);
         entries.pass(first);
@@ -356,7 +366,7 @@ impl Deadlist {
         self.count
     }
 
-    /// How many segments it has: one more than cuts, which rise.
+    /// How many segments it has: one more than it has cuts. The cuts rise.
     pub fn segments(&self) -> usize
         ensures count { result ≡ length self.now.cuts + 1 }
         ensures rising { IsStrictlyIncreasing self.now.cuts }
@@ -364,7 +374,7 @@ impl Deadlist {
         self.parts.closed.len() + 1
     }
 
-    /// The group of the cut with that index, counted from the lowest, or None where it has no more. Constant time.
+    /// The group of the cut with that index, counted from the lowest, or None where there is no such cut. Constant time.
     pub fn cut_at(&self, index: usize) -> Option<Group>
         ensures { option_map (λ g. g.0) result ≡ slice_get self.now.cuts index }
     {
@@ -372,9 +382,9 @@ impl Deadlist {
         Some(segment.upper)
     }
 
-    /// Sets a cut, where it doesn't stand; the meter then counts the segment that it divides. It costs a search in each run of that segment
-    /// and its entries that wait, and moves the segments behind it. NoMemory where memory is refused, and then nothing is changed. Where
-    /// the cut stands it takes no memory.
+    /// Adds a cut at `group`, unless the list has it; then the meter counts the segment that the cut divides. It costs a search in each run of
+    /// that segment and the waiting entries of that segment, and moves the segments behind it. NoMemory where memory is refused, and then
+    /// nothing is changed. Where the list has the cut already it takes no memory.
     pub fn cut(&mut self, group: Group, meter: &mut SegMeter) -> Result<(), Refusal>
         ensures entries { IsPermutation self.old.entries self.new.entries }
         ensures cuts { OnOk result (self.new.cuts ≡ with_cut group.0 self.old.cuts) }
@@ -384,6 +394,7 @@ impl Deadlist {
         ensures err { IfErr result (λ e. e ≡ NoMemory) }
         ensures meter { meter.new
             ≡ counted meter.old (if list_any (λ c. c == group.0) self.old.cuts then 0 else 1) }
+        ensures never_lower { meter.old ≤ meter.new }
     {
         let _before = meter.count();
         let at = self.parts.upto(group.0);
@@ -394,9 +405,9 @@ impl Deadlist {
         Ok(())
     }
 
-    /// Removes a cut, where it stands; the meter then counts the two segments that become one. It costs the entries of the second, and
-    /// moves the segments behind it. NoMemory where memory is refused, and then nothing is changed. Where the cut doesn't stand it takes no
-    /// memory.
+    /// Removes the cut at `group`, if the list has it; then the meter counts the two segments that become one. It costs the entries of the
+    /// second, and moves the segments behind it. NoMemory where memory is refused, and then nothing is changed. Where the list doesn't have the
+    /// cut it takes no memory.
     pub fn join(&mut self, group: Group, meter: &mut SegMeter) -> Result<(), Refusal>
         ensures entries { self.new.entries ≡ self.old.entries }
         ensures cuts { OnOk result (self.new.cuts ≡ without_cut group.0 self.old.cuts) }
@@ -406,6 +417,7 @@ impl Deadlist {
         ensures err { IfErr result (λ e. e ≡ NoMemory) }
         ensures meter { meter.new
             ≡ counted meter.old (if list_any (λ c. c == group.0) self.old.cuts then 2 else 0) }
+        ensures never_lower { meter.old ≤ meter.new }
     {
         let _before = meter.count();
         let at = self.parts.upto(group.0);
@@ -419,7 +431,8 @@ impl Deadlist {
 
 /// Counts that many segments.
 fn reach(meter: &mut SegMeter, segments: usize)
-    ensures { meter.new ≡ counted meter.old segments }
+    ensures metered { meter.new ≡ counted meter.old segments }
+    ensures never_lower { meter.old ≤ meter.new }
 {
     let _before = meter.count();
     for _i in 0..segments {

@@ -9,7 +9,7 @@ use crate::pile::Pile;
 use crate::run::Run;
 use base::number::Dead;
 
-/// The entries of a dead list that are left to give.
+/// An iterator over the entries of a dead list.
 #[derive(Drop)]
 pub struct Iter<'a> {
     now: &'a [Dead],
@@ -34,8 +34,8 @@ impl<'a> Iter<'a> {
         }
     }
 
-    /// Passes over that many entries, or over all that are left where they are fewer. It costs a step for each segment and each run
-    /// of entries that it passes.
+    /// Skips that many entries, or all that are left where they are fewer. It costs a step for each segment and each run of entries that it
+    /// skips.
     pub(crate) fn pass(&mut self, count: u64)
         ensures { left self.new ≡ drop count (left self.old) }
     {
@@ -51,7 +51,7 @@ impl<'a> Iter<'a> {
         }
     }
 
-    // Passes over that many entries of the segment under way, and says how many it lacked.
+    // Skips up to that many entries of the current segment, and answers how many are still to be skipped.
     fn pass_here(&mut self, count: u64) -> u64
         ensures left { drop result (left self.new) ≡ drop count (left self.old) }
         ensures here { 0 < result → left_here self.new ≡ [] }
@@ -72,7 +72,7 @@ impl<'a> Iter<'a> {
         }
     }
 
-    // Goes on to the next run of the segment under way, and says whether there was one.
+    // Goes on to the next run of the current segment, or to its tail, and answers whether there was one.
     fn open_run(&mut self) -> bool
         requires { self.old.now.now ≡ [] }
         ensures here { left_here self.new ≡ left_here self.old }
@@ -94,7 +94,7 @@ impl<'a> Iter<'a> {
         true
     }
 
-    // The next entry of the segment under way.
+    // The next entry of the current segment.
     fn next_here(&mut self) -> Option<Dead>
         ensures here { MatchOption result ((left_here self.old ≡ []) × (left_here self.new ≡ []))
             (λ d. left_here self.old ≡ d ∷ left_here self.new) }
@@ -112,7 +112,7 @@ impl<'a> Iter<'a> {
         }
     }
 
-    // Goes on to the next segment, where the one under way has no entry left, and says whether there was one.
+    // Goes on to the next segment, once the current one has no entry left, and answers whether there was one.
     fn open_next(&mut self) -> bool
         requires { left_here self.old ≡ [] }
         ensures same { left self.new ≡ left self.old }

@@ -1,4 +1,4 @@
-//! Dead lists: the blocks that a dataset has let go and the dataset before it still has, in segments by birth.
+//! Dead lists: the blocks that a dataset no longer has and the dataset before it still has, in segments by birth.
 #![tactic(auto)]
 
 pub mod deadlist;

@@ -1,4 +1,4 @@
-//! Entries put into the segments that they lie in, one by one or a whole segment at a time.
+//! Additions of entries to the segments of their births, one by one or a whole segment at a time.
 ghost use Rattle.std.specs.Prelude.{◌≡◌, ◌+◌, ◌<◌, ◌++◌, List, OnOk, IfOk, IsTrue};
 ghost use Rattle.std.specs.List.Sorted.{IsPermutation};
 ghost use Rattle.base.specs.declared.number.Dead.{Dead};
@@ -10,7 +10,7 @@ use base::number::Dead;
 use std::alloc::{AllocError, Global};
 
 impl Parts {
-    /// Puts entries into the segments that their births lie in.
+    /// Adds each of these entries to the segment of its birth.
     pub fn place_all(&mut self, alloc: Global, entries: &[Dead]) -> Result<(), AllocError>
         requires { IsCut self.old }
         ensures entries { OnOk result
@@ -24,7 +24,7 @@ impl Parts {
         Ok(())
     }
 
-    /// Puts the entries of a pile into the segments that their births lie in.
+    /// Adds each entry of a pile to the segment of its birth.
     fn place_pile(&mut self, alloc: Global, pile: &Pile) -> Result<(), AllocError>
         requires { IsCut self.old }
         ensures entries { OnOk result
@@ -39,7 +39,7 @@ impl Parts {
         self.place_all(alloc, tail)
     }
 
-    /// Puts the entries of a pile to those of the segment with that index.
+    /// Adds the entries of a pile to the segment with that index.
     fn put_pile(&mut self, alloc: Global, at: usize, pile: Pile) -> Result<(), AllocError>
         ensures closed { OnOk result (self.new.closed.items ≡ with_pile self.old.closed.items at
             (pile_at self.new.closed.items self.new.last at)) }
@@ -54,7 +54,7 @@ impl Parts {
         Ok(())
     }
 
-    /// Whether the segment with that index ends no earlier than the group, or than any where there is none.
+    /// Whether the segment with that index has no upper cut, or has it at `to` or later. Where `to` is None, only the last segment will do.
     fn ends_late(&self, at: usize, to: Option<u64>) -> bool
         ensures { IsTrue result
             → (q : List Dead) → AreBornByIf to q → FitsAt self.now.closed.items at q }
@@ -68,7 +68,8 @@ impl Parts {
         }
     }
 
-    /// Adds a pile whose entries were born between the groups: whole, where one segment takes them all.
+    /// Adds a pile whose entries were born from `from` to `to`, or from `from` on where `to` is None. It is added whole where one segment takes
+    /// all its entries.
     fn absorb(
         &mut self,
         alloc: Global,
@@ -91,7 +92,7 @@ impl Parts {
         self.place_pile(alloc, &pile)
     }
 
-    /// Adds the other's cuts and entries, whole segments where the cuts agree.
+    /// Adds the cuts and entries of the other. Where the cuts agree, whole segments are added.
     pub fn merge(&mut self, alloc: Global, other: &Parts) -> Result<(), AllocError>
         requires cut { IsCut self.old }
         requires other { IsCut other.now }
@@ -112,7 +113,7 @@ impl Parts {
         self.absorb(alloc, last, from, None)
     }
 
-    /// A copy with more entries, each in the segment that its birth lies in, and those of the last segment in order.
+    /// A copy with these entries added, each to the segment of its birth, and with the last segment settled.
     pub fn sorted(&self, alloc: Global, entries: &[Dead]) -> Result<Parts, AllocError>
         requires { IsCut self.now }
         ensures entries { IfOk result
@@ -125,7 +126,7 @@ impl Parts {
         parts.settled(alloc)
     }
 
-    /// The same entries, where those of the last segment are in order.
+    /// The same entries and cuts, with the last segment settled, as `Pile::settled` says.
     pub fn settled(self, alloc: Global) -> Result<Parts, AllocError>
         requires { IsCut self }
         ensures entries { IfOk result (λ p. IsPermutation (entries_of self) (entries_of p)) }

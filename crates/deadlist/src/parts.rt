@@ -16,7 +16,7 @@ pub struct Segment {
     pub pile: Pile,
 }
 
-/// Segments whose cuts rise, and the last one, which is open upwards.
+/// Segments in order of their upper cuts, and the last segment, which has no upper cut.
 #[derive(Drop)]
 pub struct Parts {
     pub last: Pile,
@@ -35,7 +35,7 @@ impl Parts {
         }
     }
 
-    /// An equal one, which shares the runs.
+    /// Equal segments, which share the runs.
     pub fn copy(&self, alloc: Global) -> Result<Parts, AllocError>
         ensures closed { IfOk result (λ p. p.closed.items ≡ self.now.closed.items) }
         ensures last { IfOk result (λ p. p.last ≡ self.now.last) }
@@ -50,7 +50,7 @@ impl Parts {
         Ok(Parts { closed, last })
     }
 
-    /// How many segments end by the cut.
+    /// How many segments end at the cut or before it.
     pub fn upto(&self, cut: u64) -> usize
         requires { IsCut self.now }
         ensures { result ≡ ended cut self.now.closed.items }
@@ -79,7 +79,7 @@ impl Parts {
         }
     }
 
-    /// Puts other entries into the segment with that index, and gives those that it had.
+    /// Replaces the entries of the segment with that index, and answers those that it had.
     pub fn replace(&mut self, at: usize, pile: Pile) -> Pile
         ensures closed { self.new.closed.items ≡ with_pile self.old.closed.items at pile }
         ensures last { self.new.last ≡ last_with self.old.closed.items self.old.last at pile }
@@ -92,7 +92,7 @@ impl Parts {
         mem::replace(&mut self.last, pile)
     }
 
-    /// Puts an entry into the segment with that index.
+    /// Adds an entry to the segment with that index.
     fn put(&mut self, alloc: Global, at: usize, dead: Dead) -> Result<(), AllocError>
         ensures closed { OnOk result (self.new.closed.items ≡ with_pile self.old.closed.items at
             (pile_at self.old.closed.items self.old.last at ++ dead ∷ [])) }
@@ -105,7 +105,7 @@ impl Parts {
         Ok(())
     }
 
-    /// Puts an entry into the segment that its birth lies in.
+    /// Adds an entry to the segment of its birth.
     pub fn place(&mut self, alloc: Global, dead: Dead) -> Result<(), AllocError>
         requires { IsCut self.old }
         ensures entries { OnOk result
@@ -117,7 +117,7 @@ impl Parts {
         self.put(alloc, at, dead)
     }
 
-    /// Whether the cut stands there, where `at` segments end by it.
+    /// Whether there is a cut at this group. `at` is how many segments end at it or before it.
     pub fn stands(&self, at: usize, cut: u64) -> bool
         requires cut { IsCut self.now }
         requires at { at ≡ ended cut self.now.closed.items }
@@ -129,7 +129,8 @@ impl Parts {
         self.closed[at - 1].upper.0 == cut
     }
 
-    /// The entries of the segment that the cut may divide, by the cut and after it, where `at` segments end by it.
+    /// The entries of the segment that the cut may divide: those born by the cut, and those born after it. `at` is how many segments end at the
+    /// cut or before it.
     fn divided(&self, alloc: Global, at: usize, cut: u64) -> Result<(Pile, Pile), AllocError>
         requires cut { IsCut self.now }
         requires at { at ≡ ended cut self.now.closed.items }
@@ -144,7 +145,7 @@ impl Parts {
         pile.divide(alloc, cut)
     }
 
-    /// Takes out the entries born after the cut. On an error nothing is changed.
+    /// Removes the entries born after the cut, and answers them in segments by the cuts after it. On an error nothing is changed.
     pub fn take_after(&mut self, alloc: Global, cut: u64) -> Result<Parts, AllocError>
         requires { IsCut self.old }
         ensures kept { OnOk result (entries_of self.new ≡ filter (is_upto cut) (entries_of self.old)) }
@@ -168,7 +169,7 @@ impl Parts {
         Ok(taken)
     }
 
-    /// Sets a cut, where it doesn't stand. On an error nothing is changed.
+    /// Adds a cut, unless it is there already. On an error nothing is changed.
     pub fn cut(&mut self, alloc: Global, group: Group) -> Result<(), AllocError>
         requires { IsCut self.old }
         ensures entries { OnOk result (IsPermutation (entries_of self.old) (entries_of self.new)) }
@@ -188,7 +189,7 @@ impl Parts {
         Ok(())
     }
 
-    /// Removes a cut, where it stands. On an error nothing is changed.
+    /// Removes a cut, if it is there. On an error nothing is changed.
     pub fn join(&mut self, alloc: Global, group: Group) -> Result<(), AllocError>
         requires { IsCut self.old }
         ensures entries { OnOk result (entries_of self.new ≡ entries_of self.old) }

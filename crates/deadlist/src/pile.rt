@@ -9,12 +9,12 @@ use base::number::Dead;
 use std::alloc::{AllocError, Global};
 use std::marker::Model;
 
-/// How many entries wait at least before they are put in order.
+/// At least this many entries wait before they are sorted.
 pub const FEW: usize = 64;
 
-/// The entries of a segment: runs of them, each in order of birth, that copies share, and a tail of its own, whose entries wait to be put in
-/// order. Once settled, each run is more than twice as long as the next one, and the tail is short; so there are no more runs than the
-/// logarithm of the number of entries. No entry was born before `low`, and none after `high`.
+/// The entries of a segment: runs, each in order of birth, which copies share, and a tail that isn't shared, whose entries wait to be sorted.
+/// Once settled, each run is more than twice as long as the next one, and the tail is short. So there are no more runs than the logarithm of the
+/// number of entries. No entry was born before `low`, and none after `high`.
 #[derive(Drop)]
 pub struct Pile {
     runs: Vec<Run>,
@@ -39,7 +39,7 @@ impl Model for Pile {
 }
 
 impl Pile {
-    /// No entries. It takes no memory.
+    /// A pile without entries. It takes no memory.
     pub fn new(alloc: Global) -> Pile
         ensures { result ≡ [] }
     {
@@ -59,7 +59,7 @@ impl Pile {
         self.len
     }
 
-    /// An equal one, which shares the runs.
+    /// An equal pile, which shares the runs.
     pub fn copy(&self, alloc: Global) -> Result<Pile, AllocError>
         ensures { IfOk result (λ p. p ≡ self.now) }
     {
@@ -77,7 +77,7 @@ impl Pile {
         })
     }
 
-    /// Puts an entry behind the others.
+    /// Adds an entry at the end.
     pub fn push(&mut self, dead: Dead) -> Result<(), AllocError>
         ensures ok { OnOk result (self.new ≡ self.old ++ dead ∷ []) }
     {
@@ -91,7 +91,7 @@ impl Pile {
         Ok(())
     }
 
-    /// The entries of both, in any order. It costs the runs and the tail of the one with fewer.
+    /// The entries of both, in any order. It costs the runs and the tail of the pile with fewer entries.
     pub fn joined(self, other: Pile) -> Result<Pile, AllocError>
         ensures { IfOk result (λ p. IsPermutation (self ++ other) p) }
     {
@@ -101,7 +101,7 @@ impl Pile {
         self.united(other)
     }
 
-    // Its own with those of the other.
+    // Its entries with those of the other. It costs the runs and the tail of the other.
     fn united(self, other: Pile) -> Result<Pile, AllocError>
         ensures { IfOk result (λ p. IsPermutation (self ++ other) p) }
     {
@@ -122,7 +122,7 @@ impl Pile {
         })
     }
 
-    /// The entries of both in their order. It costs the entries of the other.
+    /// Its entries followed by those of the other, in their order. It costs the entries of the other.
     pub fn followed(self, other: &Pile) -> Result<Pile, AllocError>
         ensures { IfOk result (λ p. p ≡ self ++ other.now) }
     {
@@ -141,7 +141,7 @@ impl Pile {
         })
     }
 
-    // Its entries behind these.
+    // These entries followed by its own.
     fn behind(&self, mut entries: Vec<Dead>) -> Result<Vec<Dead>, AllocError>
         ensures { IfOk result (λ v. v.items ≡ entries.items ++ self.now) }
     {
@@ -152,8 +152,8 @@ impl Pile {
         Ok(entries)
     }
 
-    /// The same entries in other runs, each more than twice as long as the next one, with a short tail. It costs the runs and the tail, and
-    /// where runs become one, their entries: over all pushes to a list of n entries each of these the logarithm of n at most.
+    /// The same entries in runs of which each is more than twice as long as the next one, with a short tail. It costs the runs and the tail, and
+    /// the entries of runs that are merged. Over all pushes to a list of n entries, each entry is merged at most the logarithm of n times.
     pub fn settled(&self, alloc: Global) -> Result<Pile, AllocError>
         ensures { IfOk result (λ p. IsPermutation self.now p) }
     {
@@ -182,7 +182,7 @@ impl Pile {
         self.halves(alloc, cut)
     }
 
-    // The same, where the cut divides them.
+    // Divides the entries as `divide` does. It is for a cut that has entries on both sides.
     fn halves(&self, alloc: Global, cut: u64) -> Result<(Pile, Pile), AllocError>
         ensures { IfOk result
             (λ p. (p.0 ≡ filter (is_upto cut) self.now) × (p.1 ≡ filter (is_after cut) self.now)) }
@@ -214,8 +214,8 @@ impl Pile {
         (self.runs.as_slice(), self.tail.as_slice())
     }
 
-    /// How many entries were born by the cut. It costs the runs, in each the logarithm of its entries, and the tail; and constant time where
-    /// the cut has all on one side.
+    /// How many entries were born by the cut. It costs the runs, in each the logarithm of its entries, and the tail. Where all entries are on
+    /// one side of the cut it takes constant time.
     pub fn count_upto(&self, cut: u64) -> u64
         ensures { result ≡ length (filter (is_upto cut) self.now) }
     {
@@ -228,7 +228,7 @@ impl Pile {
         self.counted_upto(cut)
     }
 
-    // The same, where the cut divides them.
+    // How many entries were born by the cut, counted in the runs and the tail.
     fn counted_upto(&self, cut: u64) -> u64
         ensures { result ≡ length (filter (is_upto cut) self.now) }
     {
@@ -242,7 +242,7 @@ impl Pile {
     }
 }
 
-/// The last of these runs, which is taken out, where it isn't more than twice as long as that.
+/// Removes and answers the last of these runs, if it isn't more than twice as long as `len`.
 fn pop_short(runs: &mut Vec<Run>, len: usize) -> Option<Run>
     ensures { runs.old.items ≡ runs.new.items ++ option_to_list result }
 {
@@ -253,7 +253,8 @@ fn pop_short(runs: &mut Vec<Run>, len: usize) -> Option<Run>
     runs.pop()
 }
 
-/// Puts a run behind the others, after it became one with each of the last that isn't more than twice as long. On an error some are gone.
+/// Adds a run at the end. As long as the last run isn't more than twice as long as the new one, the two are merged first. On an error some runs
+/// are lost.
 fn stack(alloc: Global, runs: &mut Vec<Run>, run: Run) -> Result<(), AllocError>
     ensures ok { OnOk result
         (IsPermutation (run_entries runs.old.items ++ run) (run_entries runs.new.items)) }
@@ -266,7 +267,7 @@ fn stack(alloc: Global, runs: &mut Vec<Run>, run: Run) -> Result<(), AllocError>
     Ok(())
 }
 
-/// Puts these entries behind the runs as one more, if they aren't few, and gives those that wait on. On an error some are gone.
+/// Adds these entries to the runs as one more run, unless they are few, and answers those that still wait. On an error some runs are lost.
 fn stack_many(alloc: Global, runs: &mut Vec<Run>, entries: &[Dead]) -> Result<Vec<Dead>, AllocError>
     ensures { IfOk result (λ v. IsPermutation (run_entries runs.old.items ++ entries.now)
         (run_entries runs.new.items ++ v.items)) }
@@ -280,7 +281,7 @@ fn stack_many(alloc: Global, runs: &mut Vec<Run>, entries: &[Dead]) -> Result<Ve
     Ok(Vec::new(alloc))
 }
 
-/// The same entries in runs each of which is more than twice as long as the next one.
+/// The same entries in runs of which each is more than twice as long as the next one.
 fn stacked(alloc: Global, runs: &[Run]) -> Result<Vec<Run>, AllocError>
     ensures { IfOk result (λ v. IsPermutation (run_entries runs.now) (run_entries v.items)) }
 {
@@ -291,7 +292,7 @@ fn stacked(alloc: Global, runs: &[Run]) -> Result<Vec<Run>, AllocError>
     Ok(stacked)
 }
 
-/// Puts a run behind the others, if it has an entry.
+/// Adds a run at the end, if it has an entry.
 fn push_some(runs: &mut Vec<Run>, run: Run) -> Result<(), AllocError>
     ensures ok { OnOk result (run_entries runs.new.items ≡ run_entries runs.old.items ++ run) }
 {

@@ -8,10 +8,10 @@ use std::alloc::{AllocError, Global};
 use std::marker::Model;
 use std::sync::Arc;
 
-/// A stretch is copied out of entries that are more than so many times as many.
+/// A part of a run is copied where the shared list has more than this many times as many entries.
 const SPARSE: usize = 4;
 
-/// Entries in order of birth: a stretch of some that other runs may share. Contracts see the list of them.
+/// Entries in order of birth: a slice of a list that other runs may share. Contracts see the list of the entries.
 #[derive(Drop)]
 pub struct Run {
     shared: Arc<Vec<Dead>>,
@@ -33,7 +33,8 @@ impl Model for Run {
 }
 
 impl Run {
-    /// These entries, put in order. It costs their number where they are in order or two runs, and else that times its logarithm.
+    /// These entries, sorted by birth. It costs their number where they are already sorted, or are two sorted runs, and else their number times
+    /// its logarithm.
     pub fn new(alloc: Global, mut entries: Vec<Dead>) -> Result<Run, AllocError>
         ensures { IfOk result (λ r. IsPermutation entries.items r) }
     {
@@ -47,7 +48,7 @@ impl Run {
         })
     }
 
-    /// The entries of both, in order. It costs their number.
+    /// The entries of both, sorted by birth. It costs their number.
     pub fn merged(alloc: Global, first: &Run, second: &Run) -> Result<Run, AllocError>
         ensures { IfOk result (λ r. IsPermutation (first.now ++ second.now) r) }
     {
@@ -75,7 +76,7 @@ impl Run {
         own
     }
 
-    /// An equal one, which shares the entries. Constant time.
+    /// An equal run, which shares the entries. Constant time.
     pub fn copy(&self) -> Result<Run, AllocError>
         ensures { IfOk result (λ r. r ≡ self.now) }
     {
@@ -97,7 +98,8 @@ impl Run {
         self.as_slice().partition_point(|dead| dead.birth.0 <= cut)
     }
 
-    // The entries from one place to another. They are shared, unless they are few beside all that would be kept for them.
+    // The entries from index `from` to `to`. They are shared, unless they are few compared with all the entries that sharing would keep in
+    // memory.
     fn part(&self, alloc: Global, from: usize, to: usize) -> Result<Run, AllocError>
         requires order { from ≤ to }
         requires within { to ≤ length self.now }
@@ -114,7 +116,7 @@ impl Run {
         })
     }
 
-    // The same with entries of its own.
+    // The entries from index `from` to `to`, copied.
     fn copied(&self, alloc: Global, from: usize, to: usize) -> Result<Run, AllocError>
         requires order { from ≤ to }
         requires within { to ≤ length self.now }
@@ -131,7 +133,7 @@ impl Run {
         })
     }
 
-    /// Those born by the cut, and those born after it. It costs the logarithm of their number, and now and then that of the fewer.
+    /// The entries born by the cut, and those born after it. It costs the logarithm of their number, and sometimes a copy of the smaller part.
     pub fn divide(&self, alloc: Global, cut: u64) -> Result<(Run, Run), AllocError>
         ensures { IfOk result
             (λ p. (p.0 ≡ filter (is_upto cut) self.now) × (p.1 ≡ filter (is_after cut) self.now)) }

@@ -1,4 +1,4 @@
-//! How many entries lie by a cut and after it, from the sizes of segments.
+//! How many entries were born by a cut and after it, from the sizes of segments.
 ghost use Rattle.std.specs.Prelude.{◌≡◌, ◌≤◌, ◌<◌, ◌^◌, ◌++◌, length, filter, take, drop};
 ghost use Rattle.deadlist.specs.Entries.{is_after, is_upto};
 ghost use Rattle.deadlist.specs.Segments.{IsCut, entries_in, entries_of, cuts_of, reached_upto, reached_after};
@@ -6,7 +6,7 @@ ghost use Rattle.deadlist.specs.Segments.{IsCut, entries_in, entries_of, cuts_of
 use crate::parts::Parts;
 
 impl Parts {
-    /// How many segments a sum of the entries born by the cut reaches: those that end by it, and the one that it divides.
+    /// How many segments a sum of the entries born by the cut reaches: those that end at it or before it, and the one that it divides.
     pub fn reached_upto(&self, cut: u64) -> usize
         requires { IsCut self.now }
         ensures { result ≡ reached_upto cut (cuts_of self.now) }
@@ -39,7 +39,7 @@ impl Parts {
         sum
     }
 
-    /// How many entries the others have.
+    /// How many entries the segments from index `at` on have.
     fn sum_from(&self, at: usize) -> u64
         requires at { at ≤ length self.now.closed.items }
         requires fits { length (entries_of self.now) < 2 ^ 64 }

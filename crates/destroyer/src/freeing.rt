@@ -1,5 +1,5 @@
 //! The blocks that are to be freed.
-ghost use Rattle.std.specs.Prelude.{◌≡◌, length, min, IfOk, OnOk, OnErr};
+ghost use Rattle.std.specs.Prelude.{◌≡◌, ◌≤◌, length, min, IfOk, OnOk, OnErr};
 ghost use Rattle.std.specs.FinSet as set;
 ghost use Rattle.std.specs.FinSet.{union, difference};
 ghost use Rattle.base.specs.Map.{blocks};
@@ -165,6 +165,8 @@ impl Freeing {
         ensures count { IfOk result (λ s. length s.taken.items ≡ min n (set.len self.now)) }
         ensures rest { IfOk result (λ s. s.rest ≡ difference self.now (dead_set s.taken.items)) }
         ensures err { OnErr result (result ≡ Err Refusal.NoMemory) }
+        ensures never_lower { meter.old ≤ meter.new }
+        ensures segments_never_lower { segments.old ≤ segments.new }
     {
         let wanted = n.min(self.len);
         let mut pieces = self.pieces.copy()?;

@@ -79,6 +79,7 @@ fn take_entries(
 ) -> Result<(), Refusal>
     ensures entries { OnOk result (taken.new.items ≡ taken.old.items ++ take count (drop first list.now.entries)) }
     ensures err { OnErr result (result ≡ Err Refusal.NoMemory) }
+    ensures never_lower { segments.old ≤ segments.new }
 {
     let mut entries = list.iter_from(first, segments);
     for _ in 0..count {
@@ -107,6 +108,7 @@ fn take_dead(
     ensures few { OnOk result (length taken.new.items ≤ wanted) }
     ensures done { OnOk result ((length taken.new.items ≡ wanted) ⊎ (pieces.new ≡ pieces.old)) }
     ensures err { OnErr result (result ≡ Err Refusal.NoMemory) }
+    ensures never_lower { segments.old ≤ segments.new }
 {
     let left = list.len().saturating_sub(first);
     let count = left.min(wanted - taken.len() as u64);
@@ -137,6 +139,8 @@ fn take_piece(
     ensures few { OnOk result (length taken.new.items ≤ wanted) }
     ensures done { OnOk result ((length taken.new.items ≡ wanted) ⊎ (pieces.new ≡ pieces.old)) }
     ensures err { OnErr result (result ≡ Err Refusal.NoMemory) }
+    ensures never_lower { meter.old ≤ meter.new }
+    ensures segments_never_lower { segments.old ≤ segments.new }
 {
     match piece {
         Piece::Trees { tops, cut } => {
@@ -160,6 +164,8 @@ pub(crate) fn take_blocks(
     ensures blocks { IfOk result (λ taken. dead_blocks taken.items ++ members pieces.new ≡ members pieces.old) }
     ensures count { IfOk result (λ taken. length taken.items ≡ wanted) }
     ensures err { OnErr result (result ≡ Err Refusal.NoMemory) }
+    ensures never_lower { meter.old ≤ meter.new }
+    ensures segments_never_lower { segments.old ≤ segments.new }
 {
     let mut taken = Vec::with_capacity(alloc, wanted as usize)?;
     while (taken.len() as u64) < wanted {

@@ -25,6 +25,7 @@ fn peel_top(
         ⊎ ((length taken.new.items ≡ length taken.old.items) × (length tops.new.items ≡ length tops.old.items))) }
     ensures err { OnErr result (result ≡ Err Refusal.NoMemory) }
     ensures metered { meter.new ≡ counted meter.old 1 }
+    ensures never_lower { meter.old ≤ meter.new }
 {
     if let Some(block) = top.peel(cut, tops, meter)? {
         taken.push(block)?;
@@ -47,6 +48,7 @@ pub(crate) fn take_tops(
     ensures few { OnOk result (length taken.new.items ≤ wanted) }
     ensures done { OnOk result ((length taken.new.items ≡ wanted) ⊎ (tops.new.items ≡ [])) }
     ensures err { OnErr result (result ≡ Err Refusal.NoMemory) }
+    ensures never_lower { meter.old ≤ meter.new }
 {
     while (taken.len() as u64) < wanted {
         let Some(top) = tops.pop() else {

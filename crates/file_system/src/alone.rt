@@ -1,5 +1,5 @@
 //! The blocks of a snapshot that no neighbour has.
-ghost use Rattle.std.specs.Prelude.{◌≡◌, ◌==◌, ◌<◌, IsSome, IfOk, IfErr, OnOk, OnErr};
+ghost use Rattle.std.specs.Prelude.{◌≡◌, ◌≤◌, ◌==◌, ◌<◌, IsSome, IfOk, IfErr, OnOk, OnErr};
 ghost use Rattle.std.specs.List.{find};
 ghost use Rattle.std.specs.Option.{option_copied};
 ghost use Rattle.std.specs.FinSet.{len, difference};
@@ -68,6 +68,7 @@ fn dead_of<'a>(kept: Option<&'a Kept>, dead: &'a Deadlist) -> &'a Deadlist
 fn entries_of(alloc: Global, dead: &Deadlist, segments: &mut SegMeter) -> Result<Vec<Dead>, Refusal>
     ensures ok { IfOk result (λ v. v.items ≡ dead.now.entries) }
     ensures err { IfErr result (λ e. e ≡ Refusal.NoMemory) }
+    ensures never_lower { segments.old ≤ segments.new }
 {
     let mut entries = Vec::new(alloc);
     for dead in dead.iter(segments) {
@@ -84,6 +85,7 @@ fn set_of(
 ) -> Result<BTreeSet<Dead>, Refusal>
     ensures ok { IfOk result (λ s. HasJust s dead.now.entries) }
     ensures err { IfErr result (λ e. e ≡ Refusal.NoMemory) }
+    ensures never_lower { segments.old ≤ segments.new }
 {
     let mut entries = BTreeSet::new(alloc);
     for dead in dead.iter(segments) {
@@ -109,6 +111,7 @@ impl FileSystem {
         requires above { AreAbove self.now.below self.now.system }
         ensures ok { IfOk result (λ a. a ≡ lost_from (blocks self.now.below) self.now.system.snaps self.now.system.live group.0) }
         ensures err { IfErr result (λ e. e ≡ Refusal.NoMemory) }
+        ensures never_lower { segments.old ≤ segments.new }
     {
         let around = around_of(self.snapshots.list(), group);
         let since = group_of(around.before, base_group(origin_in(&self.origin)));
@@ -123,7 +126,8 @@ impl FileSystem {
     pub fn alone_count(&self, group: Group, segments: &mut SegMeter) -> u64
         requires there { IsSome (find (λ t. t.group == group.0) self.now.system.snaps) }
         requires above { AreAbove self.now.below self.now.system }
-        ensures { result ≡ len (lost_from (blocks self.now.below) self.now.system.snaps self.now.system.live group.0) }
+        ensures count { result ≡ len (lost_from (blocks self.now.below) self.now.system.snaps self.now.system.live group.0) }
+        ensures never_lower { segments.old ≤ segments.new }
     {
         let around = around_of(self.snapshots.list(), group);
         let since = group_of(around.before, base_group(origin_in(&self.origin)));
@@ -138,6 +142,7 @@ impl FileSystem {
         ensures ok { OnOk result (alone.new ≡ difference alone.old (oldest_blocks self.now.system.live self.now.system.snaps)) }
         ensures err { OnErr result (alone.new ≡ alone.old) }
         ensures only { IfErr result (λ e. e ≡ Refusal.NoMemory) }
+        ensures never_lower { segments.old ≤ segments.new }
     {
         let dead = dead_of(self.snapshots.list().get(0), &self.dead);
         let gone = set_of(alone.alloc, dead, segments)?;

@@ -101,6 +101,7 @@ pub fn recounted(
     requires line { AreLined (map_below (option_copied origin)) (group_below (option_copied origin)) (snaps_in kept.now) live.now }
     ensures ok { IfOk result (IsCounted (map_below (option_copied origin.entry)) (snaps_in kept.now) live.now) }
     ensures err { IfErr result (λ e. e ≡ Refusal.NoMemory) }
+    ensures never_lower { segments.old ≤ segments.new }
 {
     let cut = base_group(origin);
     let dropped = count_gone(kept, dead, asked_of(Side::Upto, cut), segments);

@@ -49,6 +49,7 @@ pub fn put(
     ensures dead_err { OnErr result (IsPermutation (arc_value dead.old).entries (arc_value dead.new).entries) }
     ensures only { OnErr result (result ≡ Err Refusal.NoMemory) }
     ensures never_lower { meter.old ≤ meter.new }
+    ensures segments_never_lower { segments.old ≤ segments.new }
 {
     let few = count_upto(&draft.released, newest);
     if few == 0 {
@@ -85,6 +86,7 @@ fn put_onto(
     ensures dead_err { OnErr result (IsPermutation list.old.entries list.new.entries) }
     ensures only { OnErr result (result ≡ Err Refusal.NoMemory) }
     ensures never_lower { meter.old ≤ meter.new }
+    ensures segments_never_lower { segments.old ≤ segments.new }
 {
     let few = count_upto(&draft.released, newest);
     list.reserve(few, segments)?;
@@ -104,6 +106,7 @@ fn longer(
     ensures ok { IfOk result (λ d. HasGained dead.now.entries (arc_value d).entries released.now newest.0) }
     ensures cuts { IfOk result (λ d. (arc_value d).cuts ≡ dead.now.cuts) }
     ensures only { IfErr result (λ e. e ≡ Refusal.NoMemory) }
+    ensures never_lower { segments.old ≤ segments.new }
 {
     let mut list = dead.copy(segments)?;
     list.reserve(count_upto(released, newest), segments)?;

@@ -375,6 +375,7 @@ impl FileSystem {
         ensures lost { IfOk result (λ d. Lists (map dead_block d.entries) (lost_from (blocks self.old.below) self.old.system.snaps self.old.system.live group.0)) }
         ensures err { OnErr result (self.new ≡ self.old) }
         ensures only { IfErr result (λ e. e ≡ Refusal.NoMemory) }
+        ensures never_lower { segments.old ≤ segments.new }
     {
         let (kept, origin) = (self.snapshots.list(), origin_in(&self.origin));
         let (place, count) = (place_of(kept, group), kept.len());
@@ -456,6 +457,7 @@ impl FileSystem {
         ensures lost { IfOk result (IsLost (blocks self.old.below) (origin_group self.old.system.origin) self.old.system.live self.old.system.snaps) }
         ensures err { OnErr result (self.new ≡ self.old) }
         ensures only { IfErr result (λ e. e ≡ Refusal.NoMemory) }
+        ensures never_lower { segments.old ≤ segments.new }
     {
         let lost = self.lost()?;
         let Some(newest) = self.snapshots.last() else {
@@ -496,6 +498,7 @@ impl FileSystem {
         ensures only { IfErr result IsNoSpaceOrNoMemory }
         ensures metered { OnOk result (CountsDropped self.old.system.live (changes_of updates.now) meter.old meter.new) }
         ensures never_lower { meter.old ≤ meter.new }
+        ensures segments_never_lower { segments.old ≤ segments.new }
     {
         let newest = self.newest_group();
         let young = young_from(newest, synced);

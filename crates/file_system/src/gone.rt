@@ -50,6 +50,7 @@ fn asks_for(asked: Asked, group: Group) -> bool
 fn count_on(dead: &Deadlist, asked: Asked, segments: &mut SegMeter) -> u64
     ensures count { result ≡ count_on asked.side asked.cut.0 dead.now.entries }
     ensures meter { segments.new ≤ segments.old + (length dead.now.cuts + 1) }
+    ensures never_lower { segments.old ≤ segments.new }
 {
     match asked.side {
         Side::Upto => dead.space_upto(asked.cut, segments),
@@ -61,6 +62,7 @@ fn count_on(dead: &Deadlist, asked: Asked, segments: &mut SegMeter) -> u64
 fn count_kept(kept: &Kept, asked: Asked, segments: &mut SegMeter) -> u64
     ensures count { result ≡ kept_count asked kept.now }
     ensures meter { segments.new ≤ segments.old + kept_segments asked kept.now }
+    ensures never_lower { segments.old ≤ segments.new }
 {
     if asks_for(asked, kept.snapshot.group()) {
         count_on(&kept.dead, asked, segments)
@@ -73,6 +75,7 @@ fn count_kept(kept: &Kept, asked: Asked, segments: &mut SegMeter) -> u64
 fn count_snapshots(kept: &SharedList<Kept>, asked: Asked, segments: &mut SegMeter) -> u64
     ensures count { result ≡ min (2 ^ 64 - 1) (sum_by (kept_count asked) kept.now) }
     ensures meter { segments.new ≤ segments.old + sum_by (kept_segments asked) kept.now }
+    ensures never_lower { segments.old ≤ segments.new }
 {
     let mut total: u64 = 0;
     for kept in kept.iter() {
@@ -91,6 +94,7 @@ pub fn count_gone(
 ) -> u64
     ensures count { result ≡ min (2 ^ 64 - 1) (entry_count asked kept.now dead.now.entries) }
     ensures meter { segments.new ≤ segments.old + segment_count asked kept.now dead.now.cuts }
+    ensures never_lower { segments.old ≤ segments.new }
 {
     let total = count_snapshots(kept, asked, segments);
     if asked.until.is_some() {
@@ -104,6 +108,7 @@ impl FileSystem {
     fn gone_with(&self, asked: Asked, segments: &mut SegMeter) -> u64
         ensures count { result ≡ min (2 ^ 64 - 1) (sum_by (λ g. size_on asked.side asked.cut.0 g.blocks) (dead_between (option_map (λ g. g.0) asked.from) (option_map (λ g. g.0) asked.until) self.now)) }
         ensures meter { segments.new ≤ segments.old + length (dead_between (option_map (λ g. g.0) asked.from) (option_map (λ g. g.0) asked.until) self.now) }
+        ensures never_lower { segments.old ≤ segments.new }
     {
         count_gone(self.snapshots.list(), &self.dead, asked, segments)
     }
@@ -123,6 +128,7 @@ impl FileSystem {
         ensures count { result ≡ min (2 ^ 64 - 1) (sum_by (λ g. len (upto cut.0 g.blocks)) (dead_between (option_map (λ g. g.0) from) (option_map (λ g. g.0) until) self.now)) }
         ensures meter { segments.new ≤ segments.old + 2 * length (dead_between (option_map (λ g. g.0) from) (option_map (λ g. g.0) until) self.now) }
         ensures once { segments.new ≤ segments.old + length (dead_between (option_map (λ g. g.0) from) (option_map (λ g. g.0) until) self.now) }
+        ensures never_lower { segments.old ≤ segments.new }
     {
         let side = Side::Upto;
         let asked = Asked {
@@ -146,6 +152,7 @@ impl FileSystem {
         ensures count { result ≡ min (2 ^ 64 - 1) (sum_by (λ g. len (after cut.0 g.blocks)) (dead_between (option_map (λ g. g.0) from) (option_map (λ g. g.0) until) self.now)) }
         ensures meter { segments.new ≤ segments.old + 2 * length (dead_between (option_map (λ g. g.0) from) (option_map (λ g. g.0) until) self.now) }
         ensures once { segments.new ≤ segments.old + length (dead_between (option_map (λ g. g.0) from) (option_map (λ g. g.0) until) self.now) }
+        ensures never_lower { segments.old ≤ segments.new }
     {
         let side = Side::After;
         let asked = Asked {

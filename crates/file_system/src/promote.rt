@@ -93,6 +93,7 @@ impl FileSystem {
         ensures fits_owner { IfOk result (λ lines. IsLineageFor owner.now lines.1) }
         ensures demoted { IfOk result (λ lines. with_lineage owner.now lines.1 ≡ demoted_row self.now owner.now (snap_id origin)) }
         ensures err { IfErr result (λ e. e ≡ Refusal.NoMemory) }
+        ensures never_lower { segments.old ≤ segments.new }
     {
         let kept = owner.snapshots.list();
         let (place, _count) = (place_of(kept, origin.group), kept.len());
@@ -131,6 +132,7 @@ impl FileSystem {
         ensures snapshots { IfOk result (λ l. arc_value l.snapshots ≡ arc_value snapshots) }
         ensures origin { IfOk result (λ l. option_map arc_value l.origin ≡ option_map arc_value origin.now) }
         ensures err { IfErr result (λ e. e ≡ Refusal.NoMemory) }
+        ensures never_lower { segments.old ≤ segments.new }
     {
         let counts = recounted(
             snapshots.list(),

@@ -90,6 +90,7 @@ pub fn joined(
     ensures ok { IfOk result (λ p. AreJoined base.0 kept.now place next.now.entries p.0.entries p.1.entries) }
     ensures uncut { IfOk result (λ p. p.0.cuts ≡ []) }
     ensures err { IfErr result (λ e. e ≡ Refusal.NoMemory) }
+    ensures never_lower { segments.old ≤ segments.new }
 {
     let Some(gone) = kept.get(place) else {
         unreachable!()
@@ -116,6 +117,7 @@ pub fn joined_next(
     requires { CanJoin (blocks_below (option_copied origin)) (group_below (option_copied origin)) kept.now place }
     ensures ok { IfOk result (λ p. IsNext (blocks_below (option_copied origin.entry)) kept.now place p.0 p.1.entries) }
     ensures err { IfErr result (λ e. e ≡ Refusal.NoMemory) }
+    ensures never_lower { segments.old ≤ segments.new }
 {
     let _count = kept.len();
     let Some(next) = kept.get(place + 1) else {

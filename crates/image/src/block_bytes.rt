@@ -1,4 +1,4 @@
-//! Bytes of blocks.
+//! The bytes of blocks, and their writes into an image.
 ghost use Rattle.std.specs.Prelude.{◌≡◌, ◌<◌, ◌≤◌, ◌+◌, ◌*◌, ◌-◌, ◌%◌, ◌⊎◌, ◌++◌, length, map, take, drop, vec_capacity};
 ghost use Rattle.image.specs.ImageBlocks.{pointer_bytes, pointers_bytes, made_bytes, maybe_block, IsOfTree};
 ghost use Rattle.image.specs.BlockWrites.{bytes_put};
@@ -8,10 +8,10 @@ use base::number::BlockNo;
 use byteorder::{BigEndian, ByteOrder};
 use tree::{Block, Root};
 
-/// The zeros of one block, which is also one that points to no block.
+/// A block of zeros. These are also the bytes of an indirect block that points to no block.
 pub const ZEROS: [u8; 512] = [0; 512];
 
-/// Fills bytes up with zeros to a size, within the room that they have. It takes no memory.
+/// Appends zeros up to `size`, where the bytes are fewer. There must be room for them: it takes no memory.
 pub(crate) fn fill(bytes: &mut Vec<u8>, size: usize)
     requires { size ≤ vec_capacity bytes.old }
     ensures items { bytes.new.items ≡ padded size bytes.old.items }
@@ -23,8 +23,8 @@ pub(crate) fn fill(bytes: &mut Vec<u8>, size: usize)
     }
 }
 
-/// Appends zeros up to `size`, where the bytes are fewer: the cold path of `fill`. Since numbers are taken in turn, mostly one block is
-/// missing, and a copy of a constant block of zeros is faster then.
+/// Appends zeros up to `size`, where the bytes are fewer: the cold path of `fill`. Since numbers are taken in turn, mostly a single block is
+/// missing, and then it is faster to copy a constant block of zeros.
 #[inline(never)]
 fn lengthen(bytes: &mut Vec<u8>, size: usize)
     requires fewer { length bytes.old.items < size }
@@ -80,8 +80,8 @@ pub(crate) fn write_block(out: &mut [u8], block: &Block<'_>)
     }
 }
 
-/// Writes a block at its number, into the blocks that were written, with zeros for those between. It takes no memory. Bytes that come right
-/// behind them are copied there at once, as numbers are taken in turn.
+/// Writes a block at its number. The blocks between those written so far and this one become zeros. It takes no memory. The bytes of a leaf
+/// right after those written so far are appended in one copy: since numbers are taken in turn, this is the usual case.
 pub(crate) fn put_block(written: &mut Vec<u8>, b: BlockNo, block: &Block<'_>)
     requires room { 512 * b.0 + 512 ≤ vec_capacity written.old }
     requires of_tree { IsOfTree block.now }
@@ -99,7 +99,7 @@ pub(crate) fn put_block(written: &mut Vec<u8>, b: BlockNo, block: &Block<'_>)
     write_block(&mut written[at..at + 512], block);
 }
 
-/// Copies the first block's bytes of one part to the front of the other.
+/// Copies the first 512 bytes of `from` to the front of `to`.
 fn copy_front(to: &mut [u8], from: &[u8])
     requires room { 512 ≤ length to.old }
     requires there { 512 ≤ length from.now }
@@ -108,7 +108,7 @@ fn copy_front(to: &mut [u8], from: &[u8])
     to[..512].copy_from_slice(&from[..512]);
 }
 
-/// Copies a block's bytes from one place to another, in one piece, whichever of the two stands first.
+/// Copies a block's bytes from one place to another in one copy. Either place may come first.
 fn copy_bytes(bytes: &mut [u8], from: usize, to: usize)
     requires apart { (from + 512 ≤ to) ⊎ (to + 512 ≤ from) }
     requires there { from + 512 ≤ length bytes.old }
@@ -124,7 +124,8 @@ fn copy_bytes(bytes: &mut [u8], from: usize, to: usize)
     }
 }
 
-/// Writes a block as another one of an image of `count` blocks stands, in the same way.
+/// Writes a copy of block `from` at number `b`, in an image of `count` blocks. The blocks between those written so far and `b` become zeros. It
+/// takes no memory.
 pub(crate) fn put_copy(written: &mut Vec<u8>, count: u32, from: BlockNo, b: BlockNo)
     requires room { 512 * b.0 + 512 ≤ vec_capacity written.old }
     requires whole { length written.old.items % 512 ≡ 0 }
@@ -144,7 +145,7 @@ pub(crate) fn put_copy(written: &mut Vec<u8>, count: u32, from: BlockNo, b: Bloc
     }
 }
 
-/// Writes one of the sixteen pointers of a block, in the same way.
+/// Writes one of the sixteen pointers of block `b`. The blocks after those written so far, up to `b`, become zeros first. It takes no memory.
 pub(crate) fn put_pointer(
     written: &mut Vec<u8>,
     b: BlockNo,

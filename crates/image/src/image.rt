@@ -24,13 +24,11 @@ use zalloc::{Allocator, MOST_BLOCKS, Numbers};
 /// How many bytes a block has (profile).
 const BLOCK_SIZE: usize = 512;
 
-/// The blocks of a pool as bytes, beside the states of the numbers that it keeps: a number that is Allocated there is never written
-/// (profile). Contracts see the bytes of all blocks, these states, and how often they were put in. No other module reaches the bytes to
-/// change them.
+/// The blocks of a pool as bytes, and the map of protected blocks: a number that is Allocated in this map is never written (profile). Contracts
+/// see the bytes of all blocks, this map (`kept`), and how often it was replaced (`keeps`). No other module can change the bytes.
 ///
-/// Room for 512 bytes a number is reserved by `new`, and the system gives its pages when they are first used: the bytes end behind the
-/// greatest number that was written, and all beyond are zeros. Beside `new` and `from_bytes` no function takes memory but `read_tree`,
-/// for its answer.
+/// `new` reserves room for 512 bytes a number, and the operating system provides its pages when they are first used. `written` ends after the
+/// greatest number that was written; all blocks after it are zeros. Only `new` and `from_bytes` take memory, and `read_tree` for its answer.
 pub struct Image {
     written: Vec<u8>,
     blocks: u32,
@@ -38,7 +36,7 @@ pub struct Image {
     keeps: u64,
 }
 
-// By hand, so that it is proved once: a derived one is laid out anew in each crate that drops the type.
+// Written by hand, so that it is proved once: a derived one is expanded anew in each crate that drops the type.
 impl Drop for Image {
     fn drop(self) {
         let Image {
@@ -64,8 +62,8 @@ impl Model for Image {
 }
 
 impl Image {
-    /// An image of `n` blocks, at most `MOST_BLOCKS`, all zero, that keeps no number. NoMemory where the room was refused. It takes time
-    /// by a 64th of `n`.
+    /// An image of `n` blocks, at most `MOST_BLOCKS`, all zero, with no block protected. NoMemory where the room was refused. Its time is
+    /// proportional to a 64th of `n`.
     pub fn new(alloc: Global, n: u32) -> Result<Image, Refusal>
         requires { n ≤ MOST_BLOCKS }
         ensures ok { IfOk result (λ i. i ≡ record { bytes = replicate (512 * n) 0; kept = replicate n Free; keeps = 0 }) }
@@ -81,8 +79,8 @@ impl Image {
         })
     }
 
-    /// An image of these bytes that keeps no number. TooMany exactly where they aren't 512 for each of 1 to 4,194,304 blocks, NoMemory
-    /// where there is none for the states.
+    /// An image of these bytes, with no block protected. TooMany exactly where they aren't 512 for each of 1 to 4,194,304 blocks, NoMemory where
+    /// there is none for the map of protected blocks.
     pub fn from_bytes(bytes: Vec<u8>) -> Result<Image, Refusal>
         ensures ok { IfOk result (λ i. i ≡ image_of bytes.items) }
         ensures size { OnOk result (IsImageSize (length bytes.items)) }
@@ -102,7 +100,7 @@ impl Image {
         })
     }
 
-    /// Writes a block at its number, which the kept states don't have Allocated. It takes no memory.
+    /// Writes a block at its number, which must not be protected. It takes no memory.
     pub fn write(&mut self, b: BlockNo, block: &Block<'_>)
         requires open { IsOpen self.old.kept b.0 }
         requires of_tree { IsOfTree block.now }
@@ -111,8 +109,8 @@ impl Image {
         put_block(&mut self.written, b, block);
     }
 
-    /// Changes one of the sixteen pointers of an indirect block, to a block of this level or to none. The kept states don't have the
-    /// number Allocated. It takes no memory.
+    /// Changes one of the sixteen pointers of an indirect block, to a block of this level or to none. The number must not be protected. It takes
+    /// no memory.
     pub(crate) fn point(&mut self, b: BlockNo, place: u32, level: u8, root: Option<Root>)
         requires open { IsOpen self.old.kept b.0 }
         requires place { place < 16 }
@@ -121,7 +119,7 @@ impl Image {
         put_pointer(&mut self.written, b, place, level, root);
     }
 
-    /// Writes a block as another one stands, which it leaves. The kept states don't have its number Allocated. It takes no memory.
+    /// Copies block `from` to the number `to`, which is another one and must not be protected. It takes no memory.
     pub(crate) fn copy_block(&mut self, from: BlockNo, to: BlockNo)
         requires open { IsOpen self.old.kept to.0 }
         requires there { from.0 < length self.old.kept }
@@ -141,8 +139,8 @@ impl Image {
         mem::replace(&mut self.kept, states)
     }
 
-    /// Ends the group of numbers whose synced states it keeps, and keeps those that they have then: what a sync does. It takes no memory,
-    /// and costs what `Numbers::end_group` does.
+    /// Ends the group of these numbers, and replaces the map of protected blocks by their new synced states, as a sync does. Before, the map
+    /// must be equal to their synced states. It takes no memory, and costs what `Numbers::end_group` does.
     pub fn keep_synced(&mut self, numbers: &mut Numbers)
         requires { self.old.kept ≡ numbers.old.synced }
         ensures present { numbers.new.present ≡ map after_group numbers.old.present }
@@ -160,14 +158,14 @@ impl Image {
         self.keeps = self.keeps.saturating_add(1);
     }
 
-    /// How often the states that it keeps were put in. The count stops at the greatest u64.
+    /// How often the map of protected blocks was replaced. The count stops at the greatest u64.
     pub fn keeps(&self) -> u64
         ensures { result ≡ self.now.keeps }
     {
         self.keeps
     }
 
-    /// The states that it keeps.
+    /// The map of protected blocks.
     pub fn kept(&self) -> &Allocator
         ensures { result.now ≡ self.now.kept }
     {
@@ -181,7 +179,7 @@ impl Image {
         self.blocks
     }
 
-    /// The bytes of the blocks by their numbers, up to the greatest that was written: those of all blocks beyond are zeros.
+    /// The bytes of the blocks in the order of their numbers, up to the greatest number that was written. All blocks after it are zeros.
     pub fn bytes(&self) -> &[u8]
         ensures written { self.now.bytes ≡ padded (512 * length self.now.kept) result.now }
         ensures size { length self.now.bytes ≡ 512 * length self.now.kept }
@@ -191,9 +189,9 @@ impl Image {
         self.written.as_slice()
     }
 
-    /// The contents that follow from a root, as leaves in their order. BadStream exactly where a pointer on the way names no block of
-    /// the image, has a wrong level, is younger than the block that holds it or has other bytes than a pointer has; NoMemory where
-    /// there is no memory for the leaves. It costs the blocks that it reaches, and 516 bytes a leaf.
+    /// The contents of the tree with this root, as leaves in their order. BadStream exactly where a pointer of the tree names no block of the
+    /// image, has a wrong level, is younger than the block that holds it, or doesn't have the form of a pointer; NoMemory where there is no
+    /// memory for the leaves. It costs the blocks that it reaches, and 516 bytes a leaf.
     pub fn read_tree(&self, root: Option<Root>) -> Result<Vec<(u32, [u8; 512])>, Refusal>
         ensures ok { IfOk result (λ v. option_map entries (walk (block_at self.now.bytes) (length self.now.kept) (maybe_block root)) ≡ Some v.items) }
         ensures bad { result ≡ Err Refusal.BadStream → walk (block_at self.now.bytes) (length self.now.kept) (maybe_block root) ≡ None }

@@ -12,8 +12,8 @@
 //!
 //! A pointer to no block is 32 zero bytes. A freed block's bytes stay until its number is written again.
 //!
-//! The bytes are private to the module `image`, where `write`, `point` and `copy_block` change them, each those of one number, which the kept
-//! states must not have Allocated. All that writes more, as `write_all` and `write_path`, is made of these.
+//! The bytes are private to the module `image`, where only `write`, `point` and `copy_block` change them. Each changes the bytes of a single
+//! number, which must not be protected, as `Image` says. Functions that write more, such as `write_all` and `write_path`, call these.
 #![tactic(auto)]
 
 mod block_bytes;

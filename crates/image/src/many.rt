@@ -8,7 +8,7 @@ use base::number::BlockNo;
 use tree::Block;
 
 impl Image {
-    /// Writes blocks one after the other, each at its number, which the kept states don't have Allocated. It takes no memory.
+    /// Writes blocks one after the other, each at its number, which must not be protected. It takes no memory.
     pub fn write_all(&mut self, blocks: &[(BlockNo, [u8; 512])])
         requires { AreAllOpen self.old.kept blocks.now }
         ensures { self.new ≡ record self.old { bytes = images_put self.old.bytes (map written_pair blocks.now) } }
@@ -18,7 +18,7 @@ impl Image {
         }
     }
 
-    /// Writes a block that has these bytes.
+    /// Writes these bytes as a block.
     pub(crate) fn write_contents(&mut self, b: BlockNo, bytes: &[u8; 512])
         requires { IsOpen self.old.kept b.0 }
         ensures { self.new ≡ record self.old { bytes = bytes_put self.old.bytes (512 * b.0) bytes.now } }

@@ -1,5 +1,5 @@
 //! The new blocks of a change, as they are written.
-ghost use Rattle.std.specs.Prelude.{◌≡◌, IsSome, IfOk, IfErr, map};
+ghost use Rattle.std.specs.Prelude.{◌≡◌, ◌≤◌, IsSome, IfOk, IfErr, map};
 ghost use Rattle.std.specs.List.{All};
 ghost use Rattle.std.specs.FinMap.{get};
 ghost use Rattle.base.specs.declared.refusal.Refusal.{Refusal};
@@ -24,9 +24,9 @@ fn bytes_of(block: &Block<'_>) -> [u8; 512]
     bytes
 }
 
-/// The blocks that a tree has at these keys, where it has one at each, with the numbers that go with the keys, as `Image::write_all` takes
-/// them. NoMemory where there is none for them. It takes 516 bytes a block, and for each costs the nodes from the root down, which the meter
-/// counts.
+/// The blocks of a tree at these keys, each with the number given for its key, in the form that `Image::write_all` takes. It is for keys at each
+/// of which the tree has a block. NoMemory where there is none for them. It takes 516 bytes a block. Each block costs the nodes from the root
+/// down, which the meter counts.
 pub fn blocks_of(
     alloc: Global,
     tree: &Tree,
@@ -35,6 +35,7 @@ pub fn blocks_of(
 ) -> Result<Vec<(BlockNo, [u8; 512])>, Refusal>
     ensures ok { All (λ b. IsSome (get tree.now b.key)) made.now → IfOk result (λ v. map written_pair v.items ≡ writes_of tree.now (map made_pair made.now)) }
     ensures err { IfErr result (λ e. e ≡ Refusal.NoMemory) }
+    ensures never_lower { meter.old ≤ meter.new }
 {
     let mut blocks = Vec::with_capacity(alloc, made.len())?;
     for new in made {

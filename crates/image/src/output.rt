@@ -1,4 +1,4 @@
-//! The bytes of an image, as a writer gets them.
+//! Writes the bytes of an image to a writer.
 ghost use Rattle.std.specs.Prelude.{◌≡◌, ◌*◌, OnOk, replicate};
 ghost use Rattle.std.specs.Io.KnownBytes.{Appends};
 
@@ -8,8 +8,8 @@ use std::io;
 use std::io::Write;
 
 impl Image {
-    /// Writes the bytes of all blocks, 512 for each in the order of the numbers, and does not flush the writer. `from_bytes` of them
-    /// has the same blocks. It takes no memory of its own, and costs the blocks. After an error it is open how much was written.
+    /// Writes the bytes of all blocks, 512 for each in the order of the numbers, and does not flush the writer. `from_bytes` makes an image with
+    /// the same blocks of them. It takes no memory of its own, and costs the blocks. After an error, any part of them may have been written.
     pub fn write_to<W: Write>(&self, writer: &mut W) -> io::Result<()>
         ensures { OnOk result (Appends (W.contents writer.old) (W.contents writer.new) self.now.bytes) }
     {
@@ -22,7 +22,7 @@ impl Image {
     }
 }
 
-/// Writes the zeros of so many blocks.
+/// Writes this many blocks of zeros.
 fn write_zeros<W: Write>(writer: &mut W, blocks: usize) -> io::Result<()>
     ensures { OnOk result (Appends (W.contents writer.old) (W.contents writer.new) (replicate (512 * blocks) 0)) }
 {

@@ -1,4 +1,4 @@
-//! Writes of one changed path.
+//! Writes of the blocks on one changed path.
 ghost use Rattle.std.specs.Prelude.{◌≡◌, ◌<◌, ◌*◌, IfSome, None, length};
 ghost use Rattle.image.specs.BlockWrites.{images_put};
 ghost use Rattle.image.specs.Image.{IsOpen};
@@ -10,7 +10,7 @@ use crate::image::Image;
 use node::span;
 use tree::Root;
 
-/// Whether two roots are the same, or both none.
+/// Whether two pointers are the same, or both None.
 fn is_same(one: Option<Root>, other: Option<Root>) -> bool
     ensures { result ≡ is_same_block (maybe_block one) (maybe_block other) }
 {
@@ -22,7 +22,7 @@ fn is_same(one: Option<Root>, other: Option<Root>) -> bool
 }
 
 impl Image {
-    /// Writes what a leaf has, if it is there.
+    /// Writes the bytes of a leaf, if it is there.
     fn write_leaf(&mut self, new: Option<Root>, bytes: &[u8; 512])
         requires { IfSome new (λ r. IsOpen self.old.kept r.block.0) }
         ensures { self.new ≡ record self.old { bytes = images_put self.old.bytes (leaf_writes (maybe_block new) bytes.now) } }
@@ -33,8 +33,10 @@ impl Image {
         }
     }
 
-    /// Writes what an indirect block of a path is once the child at a place is another, over blocks of a level: nothing where it stays
-    /// with the same child, one pointer where it stays, and a copy from its old number with one pointer where it moves.
+    /// Writes an indirect block of a path, whose child at one place may have changed. `level` is the level of its children; `old` and `new`
+    /// point to the block before and after the change, and `was` and `is` to the child. Where the block keeps its number, it writes the one
+    /// pointer, or nothing if the child is the same. Where the block moves, it copies the bytes from the old number and writes the pointer.
+    /// Where there was no block, it writes one with this pointer alone.
     fn write_inner(
         &mut self,
         level: u8,
@@ -69,10 +71,10 @@ impl Image {
         self.point(new.block, place, level, is);
     }
 
-    /// Writes what a change of one leaf leaves, by where the blocks on the path to it were and are, each at its level: the leaf with its
-    /// bytes, and of a block above that stays one pointer, if the child there is another one. A block above that moves is copied from its
-    /// old number, where no other one of the path comes to be. It takes no memory, and costs at most six blocks, whose children it doesn't
-    /// look at.
+    /// Writes the blocks that a change of one leaf changes. `before` and `after` point to the blocks on the path to the leaf before and after
+    /// the change, indexed by level. It writes the leaf's bytes, and in a block above that keeps its number one pointer, if the child there has
+    /// changed. A block above that moves is copied from its old number; no other block of the path may be written there. It takes no memory, and
+    /// costs at most six blocks. It doesn't read their other children.
     pub fn write_path(
         &mut self,
         leaf: u32,

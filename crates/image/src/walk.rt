@@ -1,4 +1,4 @@
-//! What is found by following pointers.
+//! Walks along the pointers of an image.
 ghost use Rattle.std.specs.Prelude.{◌≡◌, ◌<◌, ◌≤◌, ◌+◌, ◌*◌, ◌%◌, ◌^◌, ◌++◌, ◌∷◌, [], length, Some, None, OnOk, IfOk, IfErr, IfSome, MatchResult};
 ghost use Rattle.std.specs.Option.{option_map};
 ghost use Rattle.base.specs.declared.refusal.Refusal.{Refusal};
@@ -14,7 +14,7 @@ use tree::Root;
 /// The leaves of a dataset in their order, each with its bytes.
 pub(crate) type Leaves = Vec<(u32, [u8; 512])>;
 
-/// The bytes of a block, of whose image of `count` blocks these were written: zeros where it wasn't.
+/// The bytes of a block of an image of `count` blocks. `written` are the bytes written so far; a block after them is zeros.
 pub(crate) fn block_of(written: &[u8], count: u32, block: BlockNo) -> [u8; 512]
     requires whole { length written.now % 512 ≡ 0 }
     requires within { length written.now ≤ 512 * count }
@@ -29,7 +29,7 @@ pub(crate) fn block_of(written: &[u8], count: u32, block: BlockNo) -> [u8; 512]
     bytes
 }
 
-/// The number in the eight bytes from a place on, the highest first.
+/// The big-endian number in the eight bytes from `at` on.
 fn number_at(block: &[u8], at: usize) -> u64
     requires { at + 8 ≤ length block.now }
     ensures { result ≡ number_in block.now at }
@@ -37,8 +37,8 @@ fn number_at(block: &[u8], at: usize) -> u64
     BigEndian::read_u64(&block[at..])
 }
 
-/// What the pointer at a place of a block born in `birth` says, in an image of `count` blocks, where blocks of this level are pointed
-/// to. BadStream where it breaks the rules.
+/// The pointer at a place of a block born in `birth`, in an image of `count` blocks. It must point to a block of this level. BadStream where it
+/// breaks the rules.
 #[tactic(auto, unfolding(crate::specs::ImageWalk::pointer_in))]
 fn pointer_at(
     block: &[u8],
@@ -81,8 +81,8 @@ fn push_leaf(out: &mut Leaves, index: u32, leaf: [u8; 512]) -> Result<(), Refusa
     Ok(())
 }
 
-/// Adds the leaves at and below a block of a level, at an index of that level, in an image of `count` blocks of which these bytes were
-/// written. BadStream where a pointer on the way breaks the rules, and then it is open what was added.
+/// Adds to `out` the leaves at and below the block `top`, which has this level and this index on the level. The image has `count` blocks, and
+/// `written` are the bytes written so far. BadStream where a pointer breaks the rules; then some of the leaves may have been added.
 pub(crate) fn gather(
     written: &[u8],
     count: u32,

@@ -96,7 +96,7 @@ fn step(
 
 /// Whether the walk from the root of a tree gives leaf 0 with this byte alone.
 fn holds(image: &Image, tree: &Tree, byte: u8) -> bool {
-    match tree.root() {
+    match tree.root(&mut meter()) {
         Some(root) => is_walked(image, root, byte),
         None => false,
     }
@@ -116,7 +116,7 @@ fn is_told(tree: &Tree) -> bool {
     let path = tree.path(0, &mut meter());
     let levels = (0..6u8).all(|level| level_told(tree, level) == Some(level)
         && path[level as usize].is_some());
-    levels && path[5] == tree.root()
+    levels && path[5] == tree.root(&mut meter())
 }
 
 /// The image of a tree that two changes made, the second on a copy, has both.
@@ -126,7 +126,7 @@ fn both_trees_are_walked(rt: HostRuntime) {
     let mut allocator = Allocator::new(alloc, 1000).expect(&rt, "memory for the states");
     let mut image = fresh(&rt, alloc);
     let mut tree = Tree::new();
-    assert!(rt; tree.root().is_none() && level_told(&tree, 5).is_none());
+    assert!(rt; tree.root(&mut meter()).is_none() && level_told(&tree, 5).is_none());
     step(
         &rt,
         alloc,

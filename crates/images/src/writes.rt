@@ -1,5 +1,5 @@
 //! What a change of a live map writes into the image.
-ghost use Rattle.std.specs.Prelude.{◌≡◌, ◌<◌, IsTrue, IfOk, IfErr, length, map};
+ghost use Rattle.std.specs.Prelude.{◌≡◌, ◌≤◌, ◌<◌, IsTrue, IfOk, IfErr, length, map};
 ghost use Rattle.base.specs.declared.refusal.Refusal.{Refusal};
 ghost use Rattle.batch.specs.Updates.{first_of, IsOfTree};
 ghost use Rattle.datasets.specs.Rows.{live_of};
@@ -93,7 +93,8 @@ fn first_leaf(update: &Update) -> u32
 // costs the logarithm of the number of file systems, and the path.
 fn path_in(table: &Table, name: &DsName, leaf: u32, meter: &mut Meter) -> [Option<Root>; 6]
     requires { leaf < 1048576 }
-    ensures { IsPathOf (live_of table.now.file_systems name.now) leaf (block_on result) }
+    ensures path { IsPathOf (live_of table.now.file_systems name.now) leaf (block_on result) }
+    ensures never_lower { meter.old ≤ meter.new }
 {
     match table.find(name) {
         Some(file_system) => file_system.live().path(leaf, meter),
@@ -137,6 +138,7 @@ pub fn path_before(
     ensures begun { IfOk result (λ p. IsBegun update.now p.value) }
     ensures path { IfOk result (λ p. IsPathOf (live_of table.now.file_systems name.now) (first_of update.now) (block_on p.value.before)) }
     ensures err { IfErr result (λ e. e ≡ Refusal.NoMemory) }
+    ensures never_lower { meter.old ≤ meter.new }
 {
     let leaf = first_leaf(update);
     let path = ChangedPath {
@@ -200,6 +202,7 @@ pub fn blocks_in(
 ) -> Result<Vec<(BlockNo, [u8; 512])>, Refusal>
     ensures ok { ArePresent (live_of table.now.file_systems name.now) made.now → IfOk result (λ v. map written_pair v.items ≡ writes_of (live_of table.now.file_systems name.now) (map made_pair made.now)) }
     ensures err { IfErr result (λ e. e ≡ Refusal.NoMemory) }
+    ensures never_lower { meter.old ≤ meter.new }
 {
     match table.find(name) {
         Some(file_system) => blocks_of(alloc, file_system.live(), made, meter),

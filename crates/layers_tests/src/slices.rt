@@ -136,13 +136,18 @@ fn has_subtrees(tree: &Tree) -> Result<bool, Refusal> {
     let Some(top) = tree.top()? else {
         return Ok(false);
     };
-    let Some(below) = top.child(0)? else {
+    let Some(below) = top.child(0, &mut meter())? else {
         return Ok(false);
     };
     let are_first = is_born_in(Some(&top), SECOND) && is_born_in(Some(&below), SECOND);
-    let are_below = is_born_in(below.child(0)?.as_ref(), FIRST)
-        && is_born_in(below.child(1)?.as_ref(), SECOND);
-    Ok(are_first && are_below && top.child(1)?.is_none() && below.child(2)?.is_none())
+    let are_below = is_born_in(below.child(0, &mut meter())?.as_ref(), FIRST)
+        && is_born_in(below.child(1, &mut meter())?.as_ref(), SECOND);
+    Ok(
+        are_first
+            && are_below
+            && top.child(1, &mut meter())?.is_none()
+            && below.child(2, &mut meter())?.is_none(),
+    )
 }
 
 #[test]

@@ -1,5 +1,5 @@
 //! The values of properties of file systems, snapshots and bookmarks.
-ghost use Rattle.std.specs.Prelude.{◌≡◌, ◌<◌, ◌*◌, ◌-◌, ◌^◌, true, false, Some, IsSome, IfOk, IfErr, map};
+ghost use Rattle.std.specs.Prelude.{◌≡◌, ◌≤◌, ◌<◌, ◌*◌, ◌-◌, ◌^◌, true, false, Some, IsSome, IfOk, IfErr, map};
 ghost use Rattle.std.specs.Option.{option_copied, option_map, unwrap_or};
 ghost use Rattle.std.specs.List.{join_with_byte};
 ghost use Rattle.std.specs.FinMap.{get};
@@ -15,7 +15,7 @@ ghost use Rattle.model.specs.Sums.{size_without, used_of, used_by_children};
 ghost use Rattle.model.specs.World.{clones_of, union_of};
 ghost use Rattle.model.specs.declared.reply.Value.{Value};
 ghost use Rattle.model.specs.declared.request.Property.{Property};
-ghost use Rattle.model.specs.requests.Get.{needs_memory};
+ghost use Rattle.model.specs.requests.Get.{live_needs_memory, snap_needs_memory, needs_memory};
 ghost use Rattle.world.specs.Tables.{world_of};
 ghost use Rattle.lookups.specs.Accounted.{IsAccounted};
 ghost use Rattle.lookups.specs.Named.{amount_value, live_value, origin_value, snapshot_value, value_in, value_named, is_used, reads_lists};
@@ -144,8 +144,8 @@ fn unwritten(file_system: &FileSystem) -> u64
 }
 
 // A property of a file system of the table, to which `room` blocks are available. A property that only snapshots have is NotApplicable. NoMemory
-// where memory for a text is refused. Constant time, but `used` and `usedbychildren` cost what `used_in` does, and `origin` what
-// `value_of_origin` does.
+// only for `origin`, where memory for its text is refused. Constant time, but `used` and `usedbychildren` cost what `used_in` does, and `origin`
+// what `value_of_origin` does.
 fn value_of_live(
     alloc: Global,
     table: &Table,
@@ -159,7 +159,7 @@ fn value_of_live(
     requires few { len (union_of (world_of table.now)) < 2 ^ 32 }
     requires small { room < 2 ^ 55 }
     ensures ok { IfOk result (λ value. value ≡ live_value table.now room file_system.now property) }
-    ensures err { IfErr result (λ e. (needs_memory property ≡ true) × (e ≡ Refusal.NoMemory)) }
+    ensures err { IfErr result (λ e. (live_needs_memory property ≡ true) × (e ≡ Refusal.NoMemory)) }
 {
     match property {
         Property::Used => Ok(many_bytes(used_in(table, ledger, file_system.name()))),
@@ -199,7 +199,7 @@ fn written_within(file_system: &FileSystem, component: &[u8]) -> Option<Value>
 }
 
 // A property other than `used` of the snapshot of this name within its file system of the table, or none where there is no such snapshot.
-// NoMemory where memory for a text is refused.
+// NoMemory only for `clones`, where memory for their names is refused.
 fn value_within(
     alloc: Global,
     table: &Table,
@@ -209,7 +209,7 @@ fn value_within(
 ) -> Result<Option<Value>, Refusal>
     requires { ¬ (property ≡ Property.Used) }
     ensures ok { IfOk result (λ value. value ≡ snapshot_value table.now file_system.now component.now property) }
-    ensures err { IfErr result (λ e. (needs_memory property ≡ true) × (e ≡ Refusal.NoMemory)) }
+    ensures err { IfErr result (λ e. (snap_needs_memory property ≡ true) × (e ≡ Refusal.NoMemory)) }
 {
     if let Property::Written = property {
         return Ok(written_within(file_system, component));
@@ -239,9 +239,9 @@ fn value_within(
     Ok(Some(value))
 }
 
-// A property of the snapshot of this name, or none where there is no such snapshot. NoMemory where memory is refused for a text, or for the
-// count of what it uses. It costs the logarithm of the number of file systems, and that of the number of its file system's snapshots. Beside
-// that `clones` costs what `clones_text` does, and `used` what `used_by_snapshot` does.
+// A property of the snapshot of this name, or none where there is no such snapshot. NoMemory only where memory is refused for the names of its
+// clones, or for the count of what it uses. It costs the logarithm of the number of file systems, and that of the number of its file system's
+// snapshots. Beside that `clones` costs what `clones_text` does, and `used` what `used_by_snapshot` does.
 fn value_of_snapshot(
     alloc: Global,
     table: &Table,
@@ -250,8 +250,9 @@ fn value_of_snapshot(
     segments: &mut SegMeter,
 ) -> Result<Option<Value>, Refusal>
     ensures ok { IfOk result (λ value. value ≡ value_in table.now member.now property) }
-    ensures err { IfErr result (λ e. (needs_memory property ≡ true) × (e ≡ Refusal.NoMemory)) }
+    ensures err { IfErr result (λ e. (snap_needs_memory property ≡ true) × (e ≡ Refusal.NoMemory)) }
     ensures unread { is_used property ≡ false → segments.new ≡ segments.old }
+    ensures never_lower { segments.old ≤ segments.new }
 {
     if let Property::Used = property {
         return Ok(used_by_snapshot(alloc, table, member, segments)?.map(in_bytes));
@@ -268,11 +269,12 @@ fn value_of_snapshot(
     )
 }
 
-/// A property of the dataset or bookmark of this name, or none where there is none. `room` is how many blocks are available to it. NoMemory
-/// where memory is refused for a text, or for the count of what a snapshot uses. It costs the logarithm of the number of file systems, and for a
-/// snapshot also that of the number of its file system's snapshots. Beside that `origin` costs the number of file systems times the logarithm of
-/// that of the snapshots of one; `clones` their names; `used` and `usedbychildren` of a file system the number of file systems, or with a ledger
-/// its logarithm; and `used` of a snapshot what `used_by_snapshot` does. Only that last one reads dead lists.
+/// A property of the dataset or bookmark of this name, or none where there is none. `room` is how many blocks are available to it. NoMemory only
+/// where memory is refused for the text of a file system's `origin` or of a snapshot's `clones`, or for the count of what a snapshot uses. It costs
+/// the logarithm of the number of file systems, and for a snapshot also that of the number of its file system's snapshots. Beside that `origin`
+/// costs the number of file systems times the logarithm of that of the snapshots of one; `clones` their names; `used` and `usedbychildren` of a
+/// file system the number of file systems, or with a ledger its logarithm; and `used` of a snapshot what `used_by_snapshot` does. Only that last
+/// one reads dead lists.
 pub fn value_named(
     alloc: Global,
     table: &Table,
@@ -286,8 +288,9 @@ pub fn value_named(
     requires few { len (union_of (world_of table.now)) < 2 ^ 32 }
     requires small { room < 2 ^ 55 }
     ensures ok { IfOk result (λ value. value ≡ value_named table.now room target.now property) }
-    ensures err { IfErr result (λ e. (needs_memory property ≡ true) × (e ≡ Refusal.NoMemory)) }
+    ensures err { IfErr result (λ e. (needs_memory target.now property ≡ true) × (e ≡ Refusal.NoMemory)) }
     ensures unread { reads_lists target.now property ≡ false → segments.new ≡ segments.old }
+    ensures never_lower { segments.old ≤ segments.new }
 {
     match target {
         Target::FileSystem(name) => match table.find(name) {

@@ -1,5 +1,5 @@
 //! Releases of snapshots.
-ghost use Rattle.std.specs.Prelude.{◌≡◌, ◌⊎◌, true, false, is_some, Some, None, IfSome, IfOk, IfErr, OnOk, OnErr};
+ghost use Rattle.std.specs.Prelude.{◌≡◌, ◌≤◌, ◌⊎◌, true, false, is_some, Some, None, IfSome, IfOk, IfErr, OnOk, OnErr};
 ghost use Rattle.base.specs.declared.refusal.Refusal.{Refusal};
 ghost use Rattle.snapshots.specs.Tags.{has_tag, without_tag};
 ghost use Rattle.datasets.specs.Holders.{snap_in_system};
@@ -50,6 +50,7 @@ pub fn release(
     ensures unchanged { OnErr result (table.new ≡ table.old) }
     ensures kept { OnErr result (freeing.new ≡ freeing.old) }
     ensures only { IfErr result (λ e. (release_refusal table.old tag.now target.now ≡ Some e) ⊎ (e ≡ Refusal.NoMemory)) }
+    ensures never_lower { segments.old ≤ segments.new }
 {
     table.facts();
     let snapshot = placed(table, target)?;
@@ -107,6 +108,7 @@ fn lose(
     ensures unchanged { OnErr result (table.new ≡ table.old) }
     ensures kept { OnErr result (freeing.new ≡ freeing.old) }
     ensures err { IfErr result (λ e. e ≡ Refusal.NoMemory) }
+    ensures never_lower { segments.old ≤ segments.new }
 {
     let mut edit = WorkingCopy::of(table, freeing)?;
     edit.remove_snapshot(alloc, file_system, id, segments)?;

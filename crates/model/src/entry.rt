@@ -1,4 +1,4 @@
-//! What a history keeps.
+//! The entries of a history.
 ghost use Rattle.std.specs.Prelude.{◌≡◌, ◌↔◌, IsTrue, IfOk, OnErr, Err, IfSome, IfNone};
 ghost use Rattle.base.specs.declared.refusal.Refusal.{Refusal};
 ghost use Rattle.model.specs.declared.reply.Reply.TheVariants.{Done};
@@ -9,12 +9,12 @@ use base::refusal::Refusal;
 use std::alloc::Global;
 use std::marker::Model;
 
-/// A reply as a history keeps it: in a word where it is Done, and else in memory of its own. Contracts see the reply.
+/// A reply as a history keeps it: Done takes a single word, and any other reply a box. Contracts see the reply.
 pub struct KeptReply {
     other: Option<Box<Reply>>,
 }
 
-// By hand, so that it is proved once: a derived one is laid out anew in each crate that drops the type.
+// Written by hand, so that it is proved once: a derived one is expanded anew in each crate that drops the type.
 impl Drop for KeptReply {
     fn drop(self) {
         let KeptReply { other } = self;
@@ -35,7 +35,7 @@ impl Model for KeptReply {
 }
 
 impl KeptReply {
-    /// Done.
+    /// The reply Done.
     pub fn done() -> KeptReply
         ensures { result ≡ Done }
     {
@@ -54,7 +54,7 @@ impl KeptReply {
         Ok(KeptReply { other: Some(other) })
     }
 
-    /// The reply, where it isn't Done.
+    /// The reply, or None where it is Done.
     pub fn other(&self) -> Option<&Reply>
         ensures some { IfSome result (λ r. r.now ≡ self.now) }
         ensures none { IfNone result (self.now ≡ Done) }
@@ -91,7 +91,7 @@ pub struct Entry {
     pub reply: KeptReply,
 }
 
-// By hand, so that it is proved once: a derived one is laid out anew in each crate that drops the type.
+// Written by hand, so that it is proved once: a derived one is expanded anew in each crate that drops the type.
 impl Drop for Entry {
     fn drop(self) {
         let Entry {

@@ -13,9 +13,9 @@ pub enum Limit {
     Quota,
     /// The most that its live map may have.
     RefQuota,
-    /// What is kept for it and its descendants.
+    /// The space that is reserved for it and its descendants.
     Reservation,
-    /// What is kept for its live map.
+    /// The space that is reserved for its live map.
     RefReservation,
 }
 
@@ -55,7 +55,7 @@ impl Limits {
         }
     }
 
-    /// This limit of them, or none (zfsprops(7)). Constant time.
+    /// One of these limits, or None where it isn't set (zfsprops(7)). Constant time.
     pub fn get(self, limit: Limit) -> Option<Blocks>
         ensures { result ≡ limit_of self limit }
     {
@@ -67,7 +67,7 @@ impl Limits {
         }
     }
 
-    /// The same with this one set to an amount, or to none (zfsprops(7)). Constant time.
+    /// These limits with one of them set to an amount, or removed (zfsprops(7)). Constant time.
     pub fn with(self, limit: Limit, amount: Option<Blocks>) -> Limits
         ensures { result ≡ with_limit self limit amount }
     {

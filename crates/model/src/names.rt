@@ -10,7 +10,7 @@ pub struct Names {
     items: Vec<Bytes>,
 }
 
-// By hand, so that it is proved once: a derived one is laid out anew in each crate that drops the type.
+// Written by hand, so that it is proved once: a derived one is expanded anew in each crate that drops the type.
 impl Drop for Names {
     fn drop(self) {
         let Names { items } = self;

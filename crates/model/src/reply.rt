@@ -1,4 +1,4 @@
-//! What a pool answers.
+//! The replies of a pool.
 ghost use Rattle.std.specs.Prelude.{◌≡◌, ◌↔◌, IsTrue};
 
 use crate::names::Names;
@@ -9,15 +9,15 @@ use base::text::Bytes;
 /// The value of a property.
 #[derive(Drop)]
 pub enum Value {
-    /// In bytes.
+    /// A size in bytes.
     Size(u64),
-    /// A number that is no size.
+    /// A number that is not a size.
     Number(u64),
     /// A text, perhaps an empty one.
     Named(Bytes),
-    /// Whether something is so.
+    /// A truth value.
     Truth(bool),
-    /// What was asked about has no such property.
+    /// The dataset or bookmark is of a kind without this property.
     NotApplicable,
 }
 
@@ -40,19 +40,19 @@ impl Value {
 /// The answer to one request.
 #[derive(Drop)]
 pub enum Reply {
-    /// It was done.
+    /// The request was done.
     Done,
-    /// It was refused, and nothing has changed.
+    /// The request was refused, and nothing has changed.
     Refused(Refusal),
-    /// The bytes of a block, or none where it is a hole.
+    /// The bytes of a block, or None where it is a hole.
     Data(Option<[u8; 512]>),
     /// The value of a property.
     Value(Value),
-    /// The open group that a sync leaves.
+    /// The open group after a sync.
     Group(u64),
     /// Names of datasets or tags, in their order.
     Names(Names),
-    /// How many blocks a slice has taken.
+    /// How many blocks a slice has released.
     Count(u64),
     /// The number of the view that was opened, and what it shows.
     Opened(u64, Sight),

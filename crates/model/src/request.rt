@@ -1,4 +1,4 @@
-//! What a pool can be asked.
+//! The requests to a pool.
 ghost use Rattle.std.specs.Prelude.{◌≡◌, ◌↔◌, IsTrue};
 
 use crate::limits::Limit;
@@ -8,50 +8,50 @@ use base::limit::Blocks;
 use base::name::{Component, DsName, MarkName, SnapName, Tag, Target};
 use base::text::Bytes;
 
-/// What `Get` may ask of a dataset or bookmark (zfsprops(7)).
+/// A property of a dataset or bookmark, for `Get` (zfsprops(7)).
 #[derive(Clone, Copy, PartialEq, Eq, Debug)]
 pub enum Property {
-    /// What a file system uses with all its descendants, in bytes: the sum of the four parts below. Of a snapshot, the blocks that no
-    /// other dataset has.
+    /// The space that a file system uses with all its descendants, in bytes: the sum of UsedByDataset, UsedBySnapshots, UsedByChildren and
+    /// UsedByRefReservation. Of a snapshot, the blocks that no other dataset has, in bytes.
     Used,
-    /// What a file system and its descendants may still come to use, in bytes; a refquota and what isn't spent of a refreservation don't
-    /// enter it.
+    /// The space that a file system and its descendants may still come to use, in bytes. A refquota, and the part of a refreservation that isn't
+    /// spent, are not taken into account.
     Available,
-    /// The blocks of a file system's live map or of a snapshot's, in bytes.
+    /// The blocks of a file system's live map, or of a snapshot's map, in bytes.
     Referenced,
-    /// The blocks that a file system's live map or a snapshot's has and the snapshot's before it hasn't, in bytes.
+    /// The blocks of a file system's live map, or of a snapshot's map, that the map of the snapshot before it doesn't have, in bytes.
     Written,
-    /// The blocks that a file system's live map has and its origin hasn't, in bytes.
+    /// The blocks of a file system's live map that its origin doesn't have, in bytes.
     UsedByDataset,
-    /// The blocks that a file system's snapshots have and neither its live map nor its origin has, in bytes.
+    /// The blocks of a file system's snapshots that neither its live map nor its origin has, in bytes.
     UsedBySnapshots,
     /// The sum over a file system's children of what each uses, or of its reservation where that is more, in bytes.
     UsedByChildren,
-    /// What of a file system's refreservation isn't written yet, in bytes.
+    /// The part of a file system's refreservation that isn't written yet, in bytes.
     UsedByRefReservation,
     /// The most that a file system may use with all its descendants, in bytes; 0 where there is no such limit.
     Quota,
     /// The most that a file system's live map may have, in bytes; 0 where there is no such limit.
     RefQuota,
-    /// What is kept for a file system and its descendants, in bytes; 0 where nothing is.
+    /// The space that is reserved for a file system and its descendants, in bytes; 0 where none is.
     Reservation,
-    /// What is kept for a file system's live map, in bytes; 0 where nothing is.
+    /// The space that is reserved for a file system's live map, in bytes; 0 where none is.
     RefReservation,
     /// A snapshot's guid, a number; also a bookmark's, which is its snapshot's.
     Guid,
     /// A snapshot's creation group, a number; also a bookmark's, which is its snapshot's.
     CreateTxg,
-    /// The name of the snapshot that a file system is a clone of, a text; not applicable where it is none.
+    /// The name of the snapshot that a file system is a clone of, a text; not applicable where it isn't a clone.
     Origin,
     /// The names of a snapshot's clones in byte order, joined by commas, a text; empty where it has none.
     Clones,
     /// How many tags a snapshot has, a number; open views aren't counted.
     UserRefs,
-    /// Whether a snapshot's destroy is deferred, a truth.
+    /// Whether a snapshot's destroy is deferred, a truth value.
     DeferDestroy,
 }
 
-/// What `PoolGet` may ask of a pool (zpoolprops(7); `Waiting` and `Group` are profile).
+/// A property of a pool, for `PoolGet` (zpoolprops(7); `Waiting` and `Group` are profile).
 #[derive(Clone, Copy, PartialEq, Eq, Debug)]
 pub enum PoolProperty {
     /// All blocks of the pool, in bytes.
@@ -71,22 +71,21 @@ pub enum PoolProperty {
 /// One request to a pool.
 #[derive(Drop)]
 pub enum Request {
-    /// Makes a file system with nothing in it. The reply is Done. It is refused Exists where the name has one, NoParent where the
-    /// file system above it isn't there, TooMany where the pool has 1,024 file systems, else perhaps NoMemory.
+    /// Creates an empty file system. The reply is Done. It is refused with Exists where there is a file system of that name, NoParent where its
+    /// parent doesn't exist, TooMany where the pool has 1,024 file systems: the first of these that applies, or NoMemory.
     Create {
         name: DsName,
     },
-    /// Writes block `block`, 0 to 4095, of object `object`, 0 to 255. The reply is Done. It is refused NoDataset where no file
-    /// system or snapshot has the name, ReadOnly where it is a snapshot's, BadKey outside those numbers, and then Quota, RefQuota
-    /// or NoSpace where the limits of the pool afterwards would not hold: the first of these, or NoMemory.
+    /// Writes block `block`, 0 to 4095, of object `object`, 0 to 255. The reply is Done. It is refused with NoDataset where no file system or
+    /// snapshot has the name, ReadOnly where it is a snapshot's, BadKey where a number is outside its range, and then Quota, RefQuota or NoSpace
+    /// where the limits of the pool would not hold afterwards: the first of these that applies, or NoMemory.
     Write {
         target: Target,
         object: u32,
         block: u32,
         bytes: Data,
     },
-    /// Makes block `block` of object `object` a hole. The reply is Done, also where it is one already. It is refused as a write
-    /// is.
+    /// Makes block `block` of object `object` a hole. The reply is Done, also where it is a hole already. It is refused as a write is.
     Punch {
         target: Target,
         object: u32,
@@ -97,24 +96,24 @@ pub enum Request {
         target: Target,
         object: u32,
     },
-    /// Makes a snapshot of the live map of each named file system, and with `recursive` (zfs-snapshot(8): -r) one of the same
-    /// component of each of its descendants too, in list order and then byte order; all are in the open group, which it closes.
-    /// The reply is Done. An empty list changes nothing. It is refused NoDataset where a named file system isn't there, BadName
-    /// where a whole name would have more than 255 bytes, Exists where a name has a snapshot or a file system stands twice,
-    /// TooMany where the pool would have more than 65,536 snapshots, the open group is the last one, or the guids would go past
-    /// the counter's last, 2^32 - 1, and then Quota, RefQuota or NoSpace as a write is: the first of these, or NoMemory.
+    /// Takes a snapshot of the live map of each named file system, and with `recursive` (zfs-snapshot(8): -r) also one with the same component
+    /// of each of its descendants, in list order and then byte order. All are created in the open group, which the request closes. The reply is
+    /// Done. An empty list changes nothing. It is refused with NoDataset where a named file system doesn't exist, BadName where a whole name
+    /// would have more than 255 bytes, Exists where a snapshot has one of the names or a file system is named twice, TooMany where the pool
+    /// would have more than 65,536 snapshots, the open group is the last one, or the guids would go past the counter's last, 2^32 - 1, and then
+    /// Quota, RefQuota or NoSpace as a write is: the first of these that applies, or NoMemory.
     Snapshot {
         names: SnapNames,
         recursive: bool,
     },
-    /// The bytes of a block, or none where it is a hole. The reply is Data. It is refused NoDataset and BadKey as a write is.
+    /// The bytes of a block, or None where it is a hole. The reply is Data. It is refused with NoDataset and BadKey as a write is.
     Read {
         target: Target,
         object: u32,
         block: u32,
     },
-    /// The value of a property, NotApplicable where what has the name is of a kind without it. The reply is Value. It is refused
-    /// NoDataset where nothing has the name.
+    /// The value of a property. It is NotApplicable where the name is of a kind that doesn't have the property. The reply is Value. It is
+    /// refused with NoDataset where nothing has the name.
     Get {
         target: Target,
         property: Property,
@@ -124,133 +123,135 @@ pub enum Request {
         property: PoolProperty,
     },
     /// The names of all file systems in byte order, each with its snapshots and bookmarks after it. The reply is Names. It is never
-    /// refused but perhaps NoMemory.
+    /// refused, except with NoMemory.
     List,
-    /// Makes the map of a snapshot the live map of its file system; with `later` (zfs-rollback(8): -r) its newer snapshots and bookmarks
-    /// go. What all datasets together lose is to be freed. The reply is Done. It is refused NotSnapshot where the name is no snapshot's,
-    /// NoDataset where no snapshot has it, NotNewest where a newer snapshot or bookmark would stay, Busy where one that would go has a
-    /// tag or an open view, HasClones where it has a clone, and then Quota, RefQuota or NoSpace as a write is: the first of these, or
-    /// NoMemory.
+    /// Rolls a file system back: makes the map of a snapshot its live map. With `later` (zfs-rollback(8): -r) the newer snapshots and bookmarks
+    /// are destroyed. Blocks that no dataset has any more are to be freed. The reply is Done. It is refused with NotSnapshot where the name is
+    /// not a snapshot's, NoDataset where no snapshot has it, NotNewest where a newer snapshot or bookmark would stay, Busy where a snapshot that
+    /// would be destroyed has a tag or an open view, HasClones where one has a clone, and then Quota, RefQuota or NoSpace as a write is: the
+    /// first of these that applies, or NoMemory.
     Rollback {
         target: Target,
         later: bool,
     },
-    /// Lets a file system, a snapshot or a bookmark go. With `recursive` (zfs-destroy(8): -r) a file system goes with its descendants, its
-    /// snapshots and bookmarks, or a snapshot with those of its name in all descendants of its file system. With `defer` (-d) a
-    /// snapshot that a tag, an open view or a clone needs goes once nothing needs it. What all datasets together lose is to be freed. The
-    /// reply is Done. It is refused NoDataset where nothing has the name, IsRoot for the root, NotSnapshot where a file system's destroy is
-    /// deferred, HasChildren where a file system has a child or a snapshot that isn't asked for, Busy and HasClones where a tag, a view
-    /// or a clone outside needs a snapshot that would go: the first of these, or NoMemory.
+    /// Destroys a file system, a snapshot or a bookmark. With `recursive` (zfs-destroy(8): -r) a file system is destroyed with its descendants,
+    /// snapshots and bookmarks, and a snapshot with those of its name in all descendants of its file system. With `defer` (-d) a snapshot that a
+    /// tag, an open view or a clone needs is destroyed once nothing needs it. Blocks that no dataset has any more are to be freed. The reply is
+    /// Done. It is refused with NoDataset where nothing has the name, IsRoot for the root, NotSnapshot for a file system with `defer`,
+    /// HasChildren where a file system has a child or a snapshot and the request isn't recursive, Busy and HasClones where a tag or view, or a
+    /// clone that would stay, needs a snapshot that would be destroyed: the first of these that applies, or NoMemory.
     Destroy {
         target: Target,
         recursive: bool,
         defer: bool,
     },
-    /// Takes so many blocks out of those that are to be freed, or all where they are fewer, and releases them. The reply is Count, their
-    /// number. It is never refused, but perhaps NoMemory.
+    /// Releases `count` of the blocks that are to be freed, or all of them where they are fewer. The reply is Count, how many it has released.
+    /// It is refused only with NoMemory.
     Slice {
         count: u64,
     },
-    /// Makes the present world the last synced one and opens the next group: what waited is free. The reply is Group, the new open
-    /// group. It is refused TooMany where the open group is the last one, 2^63 - 1, else perhaps NoMemory.
+    /// Makes the present world the last synced one, and opens the next group. The waiting blocks become free. The reply is Group, the new open
+    /// group. It is refused with TooMany where the open group is the last one, 2^63 - 1, or else with NoMemory where memory is refused.
     Sync,
-    /// Goes back to the last synced world, its open group included: all that was changed since the last sync is undone, but for the counters
-    /// of guids and of views, which go on (zpool-checkpoint(8) rewinds so to a checkpoint; here the last sync is one). A snapshot of that world
-    /// whose destroy was deferred and that only a view kept goes. The reply is Done. It is refused Busy where a view is open, else perhaps
-    /// NoMemory.
+    /// Goes back to the last synced world, its open group included: undoes all changes since the last sync. Only the counters of guids and of
+    /// views go on. (zpool-checkpoint(8) rewinds to a checkpoint in this way; here the last sync is the checkpoint.) A snapshot of that world
+    /// whose destroy was deferred and that only a view kept is destroyed. The reply is Done. It is refused with Busy where a view is open, or
+    /// else with NoMemory where memory is refused.
     Abandon,
-    /// Opens a view of a snapshot, which is then in use until the view is closed (a view counts as a hold, zfs-hold(8)). The reply is
-    /// Opened, with the view's number and what the snapshot is. It is refused NotSnapshot where the name is no snapshot's, NoDataset where
-    /// no snapshot has it, Deferred where the snapshot's destroy is deferred, TooMany where 1,024 views are open or the next view's number
-    /// is past 2^63 - 1: the first of these, or NoMemory.
+    /// Opens a view of a snapshot. The snapshot is in use until the view is closed (a view counts as a hold, zfs-hold(8)). The reply is Opened,
+    /// with the view's number and what the view shows. It is refused with NotSnapshot where the name is not a snapshot's, NoDataset where no
+    /// snapshot has it, Deferred where the snapshot's destroy is deferred, TooMany where 1,024 views are open or the next view's number is past
+    /// 2^63 - 1: the first of these that applies, or NoMemory.
     OpenView {
         target: Target,
     },
-    /// Closes the view of that number; a snapshot whose destroy is deferred goes with the last view of it. The reply is Done. It is
-    /// refused NoView where no view of that number is open, else perhaps NoMemory.
+    /// Closes the view with that number. A snapshot whose destroy is deferred is destroyed with its last view, where nothing else needs it. The
+    /// reply is Done. It is refused with NoView where no view with that number is open, or else with NoMemory where memory is refused.
     CloseView {
         view: u64,
     },
-    /// Makes a file system with the map of a snapshot, which is its origin from then on (zfs-clone(8)). The reply is Done. It is refused
-    /// NotSnapshot where the target is no snapshot's name, NoDataset where no snapshot has it, Deferred where the snapshot's destroy is
-    /// deferred, and then as Create is, Exists, NoParent or TooMany: the first of these, or NoMemory.
+    /// Creates a file system with the map of a snapshot, which becomes its origin (zfs-clone(8)). The reply is Done. It is refused with
+    /// NotSnapshot where the target is not a snapshot's name, NoDataset where no snapshot has it, Deferred where the snapshot's destroy is
+    /// deferred, and then Exists, NoParent or TooMany as Create is: the first of these that applies, or NoMemory.
     Clone {
         target: Target,
         name: DsName,
     },
-    /// Makes a clone the owner of its origin (zfs-promote(8)): it gets that snapshot, and all older ones of the file system that has it,
-    /// before its own, and the origin of that file system, which from then on is a clone of that snapshot. Maps, limits and bookmarks stay.
-    /// The reply is Done. It is refused NoDataset where no file system has the name, NotClone where it has no origin, BadName where a
-    /// snapshot's whole name would have more than 255 bytes, NameClash where the clone has a snapshot of the name of one that it would get,
-    /// and then Quota, RefQuota or NoSpace as a write is: the first of these, or NoMemory.
+    /// Makes a clone the owner of its origin (zfs-promote(8)). The origin, and all older snapshots of the file system that has it, move to the
+    /// clone, before its own snapshots. The clone also gets the origin of that file system, which itself becomes a clone of the moved origin.
+    /// Maps, limits and bookmarks stay. The reply is Done. It is refused with NoDataset where no file system has the name, NotClone where it has
+    /// no origin, BadName where a snapshot's whole name would have more than 255 bytes, NameClash where the clone has a snapshot of the same
+    /// name as one that would move, and then Quota, RefQuota or NoSpace as a write is: the first of these that applies, or NoMemory.
     Promote {
         name: DsName,
     },
-    /// Gives a snapshot a tag, which keeps it from being destroyed until the tag is released (zfs-hold(8)). The reply is Done. It is
-    /// refused NotSnapshot where the target is no snapshot's name, NoDataset where no snapshot has it, Deferred where the snapshot's
-    /// destroy is deferred, TagExists where it has the tag, TooMany where it has 256 tags: the first of these, or NoMemory.
+    /// Adds a tag to a snapshot, which keeps it from being destroyed until the tag is released (zfs-hold(8)). The reply is Done. It is refused
+    /// with NotSnapshot where the target is not a snapshot's name, NoDataset where no snapshot has it, Deferred where the snapshot's destroy is
+    /// deferred, TagExists where it has the tag already, TooMany where it has 256 tags: the first of these that applies, or NoMemory.
     Hold {
         tag: Tag,
         target: Target,
     },
-    /// Takes a tag from a snapshot; one whose destroy is deferred goes with the last tag, where neither a view nor a clone needs it
-    /// (zfs-release(8)). The reply is Done. It is refused NotSnapshot where the target is no snapshot's name, NoDataset where no snapshot
-    /// has it, NoTag where it hasn't the tag: the first of these, or NoMemory.
+    /// Removes a tag from a snapshot (zfs-release(8)). A snapshot whose destroy is deferred is destroyed with its last tag, where neither a view
+    /// nor a clone needs it. The reply is Done. It is refused with NotSnapshot where the target is not a snapshot's name, NoDataset where no
+    /// snapshot has it, NoTag where it doesn't have the tag: the first of these that applies, or NoMemory.
     Release {
         tag: Tag,
         target: Target,
     },
-    /// The tags of a snapshot in the order in which they were made (zfs-holds(8)). The reply is Names. It is refused NotSnapshot where the
-    /// target is no snapshot's name, NoDataset where no snapshot has it, else perhaps NoMemory.
+    /// The tags of a snapshot in the order in which they were made (zfs-holds(8)). The reply is Names. It is refused with NotSnapshot where the
+    /// target is not a snapshot's name, NoDataset where no snapshot has it: the first of these that applies, or NoMemory.
     Holds {
         target: Target,
     },
-    /// Makes a bookmark of a snapshot, which keeps its guid and its creation group when the snapshot goes (zfs-bookmark(8)). The reply is
-    /// Done. It is refused NotSnapshot where the target is no snapshot's name, NoDataset where no snapshot has it, NotAncestor where the
-    /// bookmark's name is of another file system than the snapshot's, Exists where there is a bookmark of that name, TooMany where the file
-    /// system has 1,024 bookmarks: the first of these, or NoMemory.
+    /// Creates a bookmark of a snapshot. It keeps the snapshot's guid and creation group when the snapshot is destroyed (zfs-bookmark(8)). The
+    /// reply is Done. It is refused with NotSnapshot where the target is not a snapshot's name, NoDataset where no snapshot has it, NotAncestor
+    /// where the bookmark's name is of another file system than the snapshot's, Exists where there is a bookmark of that name, TooMany where the
+    /// file system has 1,024 bookmarks: the first of these that applies, or NoMemory.
     Bookmark {
         target: Target,
         mark: MarkName,
     },
-    /// How many bytes of blocks a dataset has that an older snapshot of its lineage hasn't (zfsprops(7): written@snapshot). The reply is
-    /// Value. It is refused NoDataset where no dataset has the first name or no snapshot the second, NotAncestor where the snapshot isn't
+    /// The blocks of a dataset that an older snapshot of its lineage doesn't have, in bytes (zfsprops(7): written@snapshot). The reply is Value.
+    /// It is refused with NoDataset where no dataset has the first name or no snapshot has the second, NotAncestor where the snapshot isn't
     /// before the dataset in its lineage.
     WrittenSince {
         target: Target,
         since: SnapName,
     },
-    /// How many bytes of blocks would be freed with a file system's snapshots from one to another (zfs-destroy(8), -nv). The reply is Value.
-    /// It is refused NoDataset where one of the two isn't there, NotAncestor where the first is newer than the last, HasClones where a
-    /// file system is a clone of one of them.
+    /// The blocks that would be freed by a destroy of a file system's snapshots from `first` to `last`, in bytes (zfs-destroy(8), -nv). The
+    /// reply is Value. It is refused with NoDataset where one of the two doesn't exist, NotAncestor where the first is newer than the last,
+    /// HasClones where a file system is a clone of one of these snapshots.
     WouldFree {
         name: DsName,
         first: Component,
         last: Component,
     },
-    /// Sets a limit of a file system to an amount, or to none (zfs-set(8)). The reply is Done. It is refused NoDataset where no file system
-    /// has the name, and then, where an amount is given, Quota, RefQuota or NoSpace where the limits of the pool afterwards would not hold:
-    /// the first of these, or NoMemory. A limit is always let go.
+    /// Sets a limit of a file system to an amount, or removes it (zfs-set(8)). The reply is Done. It is refused with NoDataset where no file
+    /// system has the name, and then, where an amount is given, Quota, RefQuota or NoSpace where the limits of the pool would not hold
+    /// afterwards: the first of these that applies, or NoMemory. The removal of a limit is never refused for the limits of the pool.
     Set {
         name: DsName,
         limit: Limit,
         amount: Option<Blocks>,
     },
-    /// The stream of a snapshot: all of it, or where a source is named what is younger than that (zfs-send(8), -i), by which a file system
-    /// that has the source as its newest snapshot comes to have this one. A source is an older snapshot of the snapshot's lineage, or a
-    /// bookmark of its file system of a lower group. The reply is Stream. It is refused NotSnapshot where the target is no snapshot's name,
-    /// NoDataset where no snapshot has it, NotAncestor where the source is none of these: the first of these, or NoMemory.
+    /// The stream of a snapshot: a full one, or, where a source is named, an incremental one with what is younger than the source (zfs-send(8),
+    /// -i). A file system whose newest snapshot is the source gets this snapshot when it receives that stream. A source is an older snapshot of
+    /// the snapshot's lineage, or a bookmark of its file system of a lower group. The reply is Stream. It is refused with NotSnapshot where the
+    /// target is not a snapshot's name, NoDataset where no snapshot has it, NotAncestor where `from` is not such a source: the first of these
+    /// that applies, or NoMemory.
     Send {
         target: Target,
         from: Option<Target>,
     },
-    /// Receives a stream as a snapshot of this name, with the sender's guid (zfs-receive(8)): a full one into a new file system, and one from
-    /// a source into the file system whose newest snapshot that is; with `force` (-F) it goes back to that snapshot first. The reply is Done.
-    /// It is refused BadStream where the bytes are no stream; for a full one Exists where the file system is there, NoParent where the one
-    /// above it isn't; for another NoDataset where the file system isn't there, Exists where the snapshot is, WrongSource where the newest
-    /// snapshot isn't the source, Modified where the live map isn't that snapshot's and not `force`; then TooMany where there are 1,024 file
-    /// systems and one is new, 65,536 snapshots, or the open group is the last one, and then Quota, RefQuota or NoSpace as a write is: the
-    /// first of these, or NoMemory.
+    /// Receives a stream as a snapshot of this name, with the sender's guid (zfs-receive(8)). A full stream goes into a new file system. An
+    /// incremental one goes into the file system whose newest snapshot is its source; with `force` (-F) the file system is rolled back to that
+    /// snapshot first. The reply is Done. It is refused with BadStream where the bytes are not a stream. A full stream is then refused with
+    /// Exists where the file system exists, NoParent where its parent doesn't. An incremental one is refused with NoDataset where the file
+    /// system doesn't exist, Exists where the snapshot does, WrongSource where the newest snapshot isn't the source, Modified where the live map
+    /// isn't that snapshot's and `force` isn't set. Then follow TooMany where there are 1,024 file systems and one is new, 65,536 snapshots, or
+    /// the open group is the last one, and then Quota, RefQuota or NoSpace as a write is. The refusal is the first of these that applies, or
+    /// NoMemory.
     Receive {
         snapshot: SnapName,
         bytes: Bytes,
@@ -429,7 +430,7 @@ impl Request {
     }
 }
 
-// Whether both name the same source, or none.
+// Whether both name the same source, or both none.
 fn is_same_source(one: &Option<Target>, other: &Option<Target>) -> bool
     ensures { IsTrue result ↔ (one.now ≡ other.now) }
 {

@@ -9,8 +9,8 @@ use std::marker::Model;
 use std::sync::Arc;
 use tree::Tree;
 
-/// A snapshot as it was when a view of it was opened: its map, its guid and its creation group, and what a send of it may start from
-/// (zfs-send(8), -i; that a view has them is profile). Other owners may have its tree too, and the list of sources: neither ever changes.
+/// A snapshot as it was when a view of it was opened: its map, its guid and its creation group, and the sources that a send of it may start from
+/// (zfs-send(8), -i; that a view has them is profile). Its tree and its list of sources may have other owners too. Neither ever changes.
 pub struct Sight {
     tree: Tree,
     guid: Guid,
@@ -18,7 +18,7 @@ pub struct Sight {
     sources: Arc<Vec<Source>>,
 }
 
-// By hand, so that it is proved once: a derived one is laid out anew in each crate that drops the type.
+// Written by hand, so that it is proved once: a derived one is expanded anew in each crate that drops the type.
 impl Drop for Sight {
     fn drop(self) {
         let Sight {
@@ -77,7 +77,7 @@ impl Sight {
         self.group
     }
 
-    /// What a send of the snapshot may start from (zfs-send(8), -i). Constant time.
+    /// The sources that a send of the snapshot may start from (zfs-send(8), -i). Constant time.
     pub fn sources(&self) -> &[Source]
         ensures { result.now ≡ self.now.sources }
     {
@@ -97,7 +97,7 @@ impl Sight {
         })
     }
 
-    /// Whether the other is the same sight. It costs the nodes that both trees have up to the first difference, and the sources.
+    /// Whether the other is the same sight. It costs the nodes of both trees up to the first difference, and the sources.
     pub fn same(&self, other: &Sight) -> bool
         ensures { IsTrue result ↔ (self.now ≡ other.now) }
     {

@@ -1,16 +1,16 @@
-//! Lists of snapshots' names.
+//! Lists of names of snapshots.
 ghost use Rattle.std.specs.Prelude.{◌≡◌, ◌↔◌, IsTrue};
 
 use base::name::SnapName;
 use std::marker::Model;
 
-/// Names of snapshots to be made, in their order (zfs-snapshot(8)). Contracts see the list of their parts.
+/// Names of snapshots to take, in their order (zfs-snapshot(8)). Contracts see the list of their parts.
 #[derive(Debug)]
 pub struct SnapNames {
     items: Vec<SnapName>,
 }
 
-// By hand, so that it is proved once: a derived one is laid out anew in each crate that drops the type.
+// Written by hand, so that it is proved once: a derived one is expanded anew in each crate that drops the type.
 impl Drop for SnapNames {
     fn drop(self) {
         let SnapNames { items } = self;

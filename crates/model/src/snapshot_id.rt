@@ -1,9 +1,9 @@
-//! What names a snapshot wherever it stands.
+//! The identity of a snapshot.
 
 use base::number::{Group, Guid};
 
-/// A snapshot's identity, which it keeps through a promote: its creation group and its guid (On-Disk Specification, chapter 4:
-/// ds_creation_txg, ds_guid). It is one snapshot's of a pool.
+/// A snapshot's identity, which a promote doesn't change: its creation group and its guid (On-Disk Specification, chapter 4: ds_creation_txg,
+/// ds_guid). No two snapshots of a pool have the same one.
 #[derive(Clone, Copy, PartialEq, Eq, PartialOrd, Ord, Debug)]
 pub struct SnapshotId {
     pub group: Group,

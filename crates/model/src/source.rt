@@ -1,17 +1,17 @@
-//! What a send may start from.
+//! The sources of incremental sends.
 
 use base::name::Member;
 use base::number::{Group, Guid};
 
-/// The name of a source, by its parts: that of a snapshot or of a bookmark (zfs-send(8), -i). How long both parts are together isn't limited
-/// here, as it is in a name that is read.
+/// The two parts of a source's name: that of a snapshot or of a bookmark (zfs-send(8), -i). Their total length isn't limited here, as it is in a
+/// name that is read.
 #[derive(Drop, PartialEq, Eq, Debug)]
 pub enum SourceName {
     Snapshot(Member),
     Bookmark(Member),
 }
 
-/// A snapshot or a bookmark that a send may start from, by its name, with its guid and its creation group (zfs-send(8), -i).
+/// A snapshot or a bookmark that a send may start from: its name, its guid and its creation group (zfs-send(8), -i).
 #[derive(Drop, PartialEq, Eq, Debug)]
 pub struct Source {
     pub name: SourceName,

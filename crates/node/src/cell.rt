@@ -1,8 +1,8 @@
-//! What stands at a present key.
+//! The cell at a key that has one.
 
 use base::number::{BlockNo, Group};
 
-/// A block of a dataset with its contents, which it borrows (On-Disk Specification, chapter 2). `bytes` is there at level 0 alone.
+/// A block of a dataset, with its borrowed contents (On-Disk Specification, chapter 2). `bytes` is Some only at level 0.
 #[derive(Clone, Copy, PartialEq, Eq, Debug)]
 pub struct Cell<'a> {
     pub block: BlockNo,

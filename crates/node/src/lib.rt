@@ -1,6 +1,6 @@
-//! The nodes of a tree of blocks: a leaf, or sixteen places with what is below them.
+//! The nodes of a tree of blocks: a leaf, or an indirect block with sixteen places for nodes of the level below.
 //!
-//! A node may have many owners, as versions of a tree share what they have in common.
+//! A node may have many owners, since versions of a tree share the nodes that they have in common.
 #![tactic(auto)]
 
 mod cell;

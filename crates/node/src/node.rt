@@ -1,4 +1,4 @@
-//! The nodes, one type a level.
+//! The nodes, one type for each level.
 ghost use Rattle.std.specs.Prelude.{◌≡◌, ℕ, ◌<◌, ◌≤◌, ◌+◌, ◌*◌, ◌/◌, ◌%◌, ◌-◌, ◌^◌, Option, Some, None, suc, OnOk, OnErr, ◌++◌, length, slice_index_or, map};
 ghost use Rattle.std.specs.Option.{option_map};
 ghost use Rattle.base.specs.Counting.{counted};
@@ -18,29 +18,32 @@ use base::number::{BlockNo, Dead, Group};
 use base::refusal::Refusal;
 use std::sync::Arc;
 
-/// A node of one level, with what is below it.
+/// A node of one level, with the nodes below it.
 pub trait Level {
     ghost part: { Self → Part };
 
     ghost height: { ℕ };
 
-    /// What stands at the node's own key.
+    /// The cell at the node's own key.
     fn cell(&self) -> Cell<'_>
         ensures { cell_of result ≡ (part self.now).cell };
 
-    /// What stands `depth` levels below, at the index `at` of the keys that the node covers there.
+    /// The cell `depth` levels below, at index `at` among the keys that the node covers on that level. None where there is no block. The meter
+    /// counts each node on the way, this one included.
     fn find(&self, depth: u32, at: u32, meter: &mut Meter) -> Option<Cell<'_>>
         requires shallow { depth ≤ 5 }
         requires covered { at < 16 ^ depth }
         ensures found { option_map cell_of result ≡ cell_below depth (part self.now) at }
-        ensures metered { meter.new ≡ counted meter.old (steps_below depth (part self.now) at) };
+        ensures metered { meter.new ≡ counted meter.old (steps_below depth (part self.now) at) }
+        ensures never_lower { meter.old ≤ meter.new };
 
     /// The node's own block.
     fn block(&self) -> Dead
         ensures { result ≡ dead_of (part self.now).cell };
 
-    /// Adds the blocks born after a group, each before those below it. A part that is no younger is not walked. The meter rises
-    /// by at least one for each block that is added.
+    /// Adds to `out` the blocks of this part of the tree that were born after group `cut`, each before the blocks below it. Below a block that
+    /// wasn't born after it, nothing is visited. The meter rises by at least one for each block that is added. NoMemory where there is none for
+    /// `out`.
     fn gather(&self, cut: Group, out: &mut Vec<Dead>, meter: &mut Meter) -> Result<(), Refusal>
         requires sound { IsSound height (part self.now) }
         ensures gathered { OnOk result (map dead_block out.new.items ≡ map dead_block out.old.items ++ born_after cut.0 (part_blocks (part self.now))) }
@@ -66,7 +69,7 @@ pub(crate) fn reach(meter: &mut Meter)
     meter.add_one();
 }
 
-/// How many keys a part covers at a level so far below its own.
+/// How many keys a node covers on the level `depth` below its own.
 pub fn span(depth: u32) -> u32
     requires { depth ≤ 5 }
     ensures { result ≡ 16 ^ depth }
@@ -74,7 +77,7 @@ pub fn span(depth: u32) -> u32
     1 << (4 * depth)
 }
 
-/// The place below on the way to a key, and the key's index among those that the place covers.
+/// One step from a node down to a key: the place to descend to, and the key's index among those that this place covers.
 pub fn step(depth: u32, at: u32) -> (usize, u32)
     requires deep { 0 < depth }
     requires shallow { depth ≤ 5 }
@@ -95,7 +98,7 @@ pub struct Inner<C> {
     pub kids: [Pair<C>; 8],
 }
 
-// By hand, so that the counts of all that stands at its places are read before the first of them falls.
+// Written by hand, so that the owner counts of all nodes at its places are read before the first of them is decremented.
 impl<C: Drop> Drop for Inner<C> {
     fn drop(self) {
         let Inner {
@@ -108,18 +111,18 @@ impl<C: Drop> Drop for Inner<C> {
     }
 }
 
-/// The node at the root, at level 5.
+/// A root node, at level 5.
 pub type Root = Inner<Inner<Inner<Inner<Inner<Leaf>>>>>;
 
 impl<C> Inner<C> {
-    /// An indirect block with what stands at its sixteen places.
+    /// An indirect block with these nodes at its sixteen places.
     pub fn new(block: BlockNo, birth: Group, kids: [Pair<C>; 8]) -> Inner<C>
         ensures { result ≡ record { block = block; birth = birth; kids = kids } }
     {
         Inner { block, birth, kids }
     }
 
-    /// How many places there are below a node.
+    /// How many places a node has: 16.
     pub fn place_count(&self) -> u32
         ensures sixteen { result ≡ 16 }
         ensures all { length (places_in self.now.kids) ≡ 16 }
@@ -127,7 +130,7 @@ impl<C> Inner<C> {
         place_count(&self.kids)
     }
 
-    /// What stands at a place.
+    /// The node at a place.
     pub fn kid(&self, place: usize) -> Option<&C>
         requires { place < 16 }
         ensures { option_map (λ k. k.now) result ≡ option_map (λ a. a.value) (slice_index_or (places_in self.now.kids) place None) }
@@ -138,7 +141,7 @@ impl<C> Inner<C> {
         }
     }
 
-    /// The owner of what stands at a place.
+    /// The owner of the node at a place.
     pub fn owner(&self, place: usize) -> Option<&Arc<C>>
         requires { place < 16 }
         ensures { option_map (λ a. a.now) result ≡ slice_index_or (places_in self.now.kids) place None }

@@ -1,4 +1,4 @@
-//! Owners of nodes that others may own too.
+//! Owners of shared nodes.
 ghost use Rattle.std.specs.Prelude.{◌≡◌, ◌<◌, IfOk, OnErr, None, slice_index_or, length};
 ghost use Rattle.base.specs.declared.refusal.Refusal.{Refusal};
 ghost use Rattle.node.specs.Kid.{places_of};
@@ -8,7 +8,7 @@ use crate::node::{Inner, Level};
 use base::refusal::Refusal;
 use std::sync::Arc;
 
-/// The owner of what a place has.
+/// The owner in a place, borrowed.
 pub fn owner_in<C: Level>(slot: &Option<Arc<C>>) -> Option<&Arc<C>>
     ensures { part_of_owner C.part result ≡ part_of_slot C.part slot.now }
 {
@@ -18,7 +18,7 @@ pub fn owner_in<C: Level>(slot: &Option<Arc<C>>) -> Option<&Arc<C>>
     }
 }
 
-/// One more owner of a part that may be absent.
+/// One more owner of the same node, or None where there is none. NoMemory where there is none for it.
 pub fn keep<C: Level>(old: Option<&Arc<C>>) -> Result<Option<Arc<C>>, Refusal>
     ensures ok { IfOk result (λ r. part_of_slot C.part r ≡ part_of_owner C.part old.entry) }
     ensures err { OnErr result (result ≡ Err Refusal.NoMemory) }
@@ -29,7 +29,7 @@ pub fn keep<C: Level>(old: Option<&Arc<C>>) -> Result<Option<Arc<C>>, Refusal>
     }
 }
 
-/// The owner of what stands at a place of a part that may be absent.
+/// The owner of the node at a place of `old`, or None where `old` is None.
 pub fn owner_at<C: Level>(old: Option<&Arc<Inner<C>>>, place: usize) -> Option<&Arc<C>>
     requires { place < 16 }
     ensures { part_of_owner C.part result ≡ slice_index_or (places_of (part_of_owner (inner_part C.part) old.entry)) place None }
@@ -40,7 +40,7 @@ pub fn owner_at<C: Level>(old: Option<&Arc<Inner<C>>>, place: usize) -> Option<&
     }
 }
 
-/// How many places a shared part has, also one that is absent.
+/// How many places `old` has: 16, also where it is None.
 pub fn owner_count<C: Level>(old: Option<&Arc<Inner<C>>>) -> u32
     ensures sixteen { result ≡ 16 }
     ensures all { length (places_of (part_of_owner (inner_part C.part) old.entry)) ≡ 16 }

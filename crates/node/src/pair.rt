@@ -1,4 +1,4 @@
-//! The places of a node, two by two.
+//! The places of a node, in pairs.
 ghost use Rattle.std.specs.Prelude.{◌≡◌, ◌%◌, ◌<◌, IfOk, OnErr, None, length, replicate, slice_index_or, slice_set};
 ghost use Rattle.std.specs.Option.{option_map};
 ghost use Rattle.base.specs.declared.refusal.Refusal.{Refusal};
@@ -10,7 +10,7 @@ use base::refusal::Refusal;
 use std::mem;
 use std::sync::Arc;
 
-/// What stands at two places side by side. It takes three words, where two places by themselves would take four.
+/// The nodes at two neighbouring places. It takes three words, where two single places would take four.
 #[derive(Drop)]
 pub enum Pair<C> {
     Neither,
@@ -20,7 +20,7 @@ pub enum Pair<C> {
 }
 
 impl<C> Pair<C> {
-    /// The pair with these at its places.
+    /// The pair with these nodes at its places.
     fn of(left: Option<Arc<C>>, right: Option<Arc<C>>) -> Pair<C>
         ensures left { left_of result ≡ left }
         ensures right { right_of result ≡ right }
@@ -33,7 +33,7 @@ impl<C> Pair<C> {
         }
     }
 
-    /// What stands at the two places.
+    /// The nodes at the two places.
     fn sides(self) -> (Option<Arc<C>>, Option<Arc<C>>)
         ensures left { result.0 ≡ left_of self }
         ensures right { result.1 ≡ right_of self }
@@ -46,7 +46,7 @@ impl<C> Pair<C> {
         }
     }
 
-    /// The owner of what stands at one of the two places: at the left one for an even number.
+    /// The owner of the node at one of the two places: the left one where `place` is even, and else the right one.
     fn side(&self, place: usize) -> Option<&Arc<C>>
         ensures { option_map (λ a. a.now) result ≡ side_of self.now (place % 2) }
     {
@@ -67,7 +67,7 @@ impl<C> Pair<C> {
 }
 
 impl<C: Level + Drop> Pair<C> {
-    /// The same again, by one more owner of each. NoMemory where there is none for one.
+    /// A pair that shares the same nodes, by one more owner of each. NoMemory where there is none for one.
     pub fn copy(&self) -> Result<Pair<C>, Refusal>
         ensures left { IfOk result (λ p. part_of_slot C.part (left_of p) ≡ part_of_slot C.part (left_of self.now)) }
         ensures right { IfOk result (λ p. part_of_slot C.part (right_of p) ≡ part_of_slot C.part (right_of self.now)) }
@@ -86,7 +86,7 @@ impl<C: Level + Drop> Pair<C> {
     }
 }
 
-/// Sixteen places at which nothing stands.
+/// Sixteen places without a node.
 pub fn no_kids<C>() -> [Pair<C>; 8]
     ensures { places_in result ≡ replicate 16 None }
 {
@@ -102,9 +102,9 @@ pub fn no_kids<C>() -> [Pair<C>; 8]
     ]
 }
 
-/// Reads the counts of the owners of what stands at the places, where the last two have something, as in a node that is full. These reads
-/// wait for memory side by side, where the changes of the counts that are to follow wait one after another, and then find them near. It
-/// changes nothing.
+/// Reads the owner counts of the nodes at the places, if the last two places both have one, as in a full node. The caller changes these counts
+/// next. The reads wait for memory in parallel, while the changes would wait one after another; after the reads they find the counts in the
+/// cache. It changes nothing.
 pub fn read_counts<C>(kids: &[Pair<C>; 8]) {
     let Pair::Both(_, last) = &kids[7] else {
         return;
@@ -122,7 +122,7 @@ pub fn read_counts<C>(kids: &[Pair<C>; 8]) {
     }
 }
 
-/// How many places eight pairs have.
+/// How many places eight pairs have: 16.
 pub fn place_count<C>(kids: &[Pair<C>; 8]) -> u32
     ensures sixteen { result ≡ 16 }
     ensures all { length (places_in kids.now) ≡ 16 }
@@ -130,7 +130,7 @@ pub fn place_count<C>(kids: &[Pair<C>; 8]) -> u32
     16
 }
 
-/// The owner of what stands at a place.
+/// The owner of the node at a place.
 pub fn kid_at<C>(kids: &[Pair<C>; 8], place: usize) -> Option<&Arc<C>>
     requires { place < 16 }
     ensures { option_map (λ a. a.now) result ≡ slice_index_or (places_in kids.now) place None }
@@ -138,7 +138,7 @@ pub fn kid_at<C>(kids: &[Pair<C>; 8], place: usize) -> Option<&Arc<C>>
     kids[place / 2].side(place)
 }
 
-/// Puts at a place what is to stand there, and answers what stood there.
+/// Replaces the node at a place by `kid`, and answers the former one.
 pub fn replace_kid<C: Drop>(
     kids: &mut [Pair<C>; 8],
     place: usize,

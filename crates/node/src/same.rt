@@ -1,4 +1,4 @@
-//! Whether two parts of a tree are the same.
+//! Comparisons of parts of a tree.
 ghost use Rattle.std.specs.Prelude.{◌≡◌, ◌↔◌, IsTrue};
 ghost use Rattle.node.specs.Node.{part_of_owner, shared_part};
 ghost use Rattle.node.specs.Pairs.{places_in};
@@ -9,14 +9,14 @@ use crate::node::{Inner, Level};
 use crate::pair::{Pair, kid_at, place_count};
 use std::sync::Arc;
 
-/// A level whose parts can be compared.
+/// A level whose nodes can be compared.
 pub trait Same: Level {
-    /// Whether the other part has the same cells at the same places.
+    /// Whether the other node and those below it have the same cells at the same places.
     fn same(&self, other: &Self) -> bool
         ensures { IsTrue result ↔ (Self.part self.now ≡ Self.part other.now) };
 }
 
-/// Whether the same part stands at two places, or none at either.
+/// Whether two places have equal nodes, or both have none.
 pub fn same_kid<C: Same>(one: Option<&Arc<C>>, other: Option<&Arc<C>>) -> bool
     ensures { IsTrue result ↔ (part_of_owner C.part one.entry ≡ part_of_owner C.part other.entry) }
 {
@@ -27,7 +27,7 @@ pub fn same_kid<C: Same>(one: Option<&Arc<C>>, other: Option<&Arc<C>>) -> bool
     }
 }
 
-/// Whether the same parts stand at all sixteen places.
+/// Whether both have equal nodes at all sixteen places.
 fn same_kids<C: Same>(one: &[Pair<C>; 8], other: &[Pair<C>; 8]) -> bool
     ensures { IsTrue result ↔ (forest_of (shared_part C.part) (places_in one.now) ≡ forest_of (shared_part C.part) (places_in other.now)) }
 {

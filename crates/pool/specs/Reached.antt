@@ -1,5 +1,5 @@
 -- What a request reaches of trees and of dead lists.
-use Rattle.std.specs.Prelude.{◌≡◌, Bool, true, false}
+use Rattle.std.specs.Prelude.{◌≡◌, ◌≤◌, Bool, true, false}
 use Rattle.model.specs.declared.request.Request.{Request}
 use Rattle.model.specs.declared.request.Request.TheVariants.{Write, Punch, FreeObject, Rollback, Promote, Destroy, Release, Receive, CloseView, Slice, Abandon, Get, WrittenSince, WouldFree}
 use Rattle.model.specs.declared.reply.Reply.{Reply}
@@ -42,8 +42,10 @@ reaches_lists (WouldFree name first last) = true
 reaches_lists request = false
 
 -- What a request with this reply adds to the counts of a pool: no node and no segment where it reaches none, and where it only reads no more
--- segments than its reply reads of the datasets (profile)
+-- segments than its reply reads of the datasets; neither count falls (profile)
 pub record IsMetered (old : Shown) (q : Request) (r : Reply) (new : Shown) : Type 0 where
+  pub never_lower : old.nodes ≤ new.nodes
+  pub segments_never_lower : old.segments ≤ new.segments
   pub nodes : ReachesNoNode q → new.nodes ≡ old.nodes
   pub segments : reaches_lists q ≡ false → new.segments ≡ old.segments
   pub read : kind_of q ≡ Question → HasRead (datasets_of old.state) q r old.segments new.segments

@@ -1,5 +1,5 @@
 //! Writes, punches and freed objects.
-ghost use Rattle.std.specs.Prelude.{◌≡◌, [], ◌∷◌, Err, IfOk, OnErr};
+ghost use Rattle.std.specs.Prelude.{◌≡◌, ◌≤◌, [], ◌∷◌, Err, IfOk, OnErr};
 ghost use Rattle.base.specs.declared.name.target.Target.{Target};
 ghost use Rattle.tree.specs.Updates.{IsBatch};
 ghost use Rattle.model.specs.declared.request.Request.{Request};
@@ -37,6 +37,8 @@ impl Keep {
         ensures performed { (q : Request) → Asks q target.now update.entry → IsPerformed (state_in self.now world.old) self.now.numbers.present world.new q result }
         ensures blocks { IfOk result WritesBlocks }
         ensures unchanged { OnErr result (world.new ≡ world.old) }
+        ensures never_lower { meters.old.blocks ≤ meters.new.blocks }
+        ensures segments_never_lower { meters.old.segments ≤ meters.new.segments }
     {
         let name = live_name(&world.table, target)?;
         let update = match update {

@@ -1,5 +1,5 @@
 //! Destroys and rollbacks.
-ghost use Rattle.std.specs.Prelude.{◌≡◌, ◌<◌, ◌^◌, ℕ, List, true, false, None, OnErr};
+ghost use Rattle.std.specs.Prelude.{◌≡◌, ◌≤◌, ◌<◌, ◌^◌, ℕ, List, true, false, None, OnErr};
 ghost use Rattle.std.specs.FinSet as set;
 ghost use Rattle.base.specs.declared.name.member.Member.{Member};
 ghost use Rattle.base.specs.declared.name.target.Target.{Target};
@@ -37,6 +37,7 @@ impl Keep {
         requires { IsHeld self.now world.old }
         ensures performed { IsPerformed (state_in self.now world.old) self.now.numbers.present world.new (Request.Destroy target.now recursive defer) result }
         ensures unchanged { OnErr result (world.new ≡ world.old) }
+        ensures never_lower { segments.old ≤ segments.new }
     {
         let alone = is_alone(&world.table, target, recursive);
         destroy(
@@ -68,6 +69,7 @@ impl Keep {
         requires { IsHeld self.now world.old }
         ensures performed { IsPerformed (state_in self.now world.old) self.now.numbers.present world.new (Request.Rollback target.now later) result }
         ensures unchanged { OnErr result (world.old.ledger ≡ None → world.new ≡ world.old) }
+        ensures never_lower { segments.old ≤ segments.new }
     {
         rollback(
             alloc,

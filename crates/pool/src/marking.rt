@@ -1,5 +1,5 @@
 //! Holds and bookmarks.
-ghost use Rattle.std.specs.Prelude.{◌≡◌, OnErr};
+ghost use Rattle.std.specs.Prelude.{◌≡◌, ◌≤◌, OnErr};
 ghost use Rattle.model.specs.declared.request.Request.{Request};
 ghost use Rattle.pool.specs.Pools.{state_in, IsHeld};
 ghost use Rattle.pool.specs.Effects.{IsPerformed};
@@ -42,6 +42,7 @@ impl Keep {
         requires { IsHeld self.now world.old }
         ensures performed { IsPerformed (state_in self.now world.old) self.now.numbers.present world.new (Request.Release tag.now target.now) result }
         ensures unchanged { OnErr result (world.new ≡ world.old) }
+        ensures never_lower { segments.old ≤ segments.new }
     {
         release(
             alloc,

@@ -1,5 +1,5 @@
 //! The change of a world that a request asks for.
-ghost use Rattle.std.specs.Prelude.{◌≡◌, ◌≢◌, ◌⊎◌, None, IfOk, OnErr, true, false};
+ghost use Rattle.std.specs.Prelude.{◌≡◌, ◌≢◌, ◌≤◌, ◌⊎◌, None, IfOk, OnErr, true, false};
 ghost use Rattle.images.specs.Stored.{changes_maps};
 ghost use Rattle.pool.specs.Pools.{state_in, IsHeld};
 ghost use Rattle.pool.specs.Kinds.{kind_of};
@@ -32,6 +32,8 @@ impl Keep {
         ensures blocks { changes_maps request.now ≡ true → IfOk result WritesBlocks }
         ensures nodes { changes_blocks request.now ≡ false → meters.new.blocks ≡ meters.old.blocks }
         ensures segments { reaches_lists request.now ≡ false → meters.new.segments ≡ meters.old.segments }
+        ensures never_lower { meters.old.blocks ≤ meters.new.blocks }
+        ensures segments_never_lower { meters.old.segments ≤ meters.new.segments }
         ensures unchanged { OnErr result ((kind_of request.now ≡ Kind.Change) ⊎ (world.old.ledger ≡ None) → world.new ≡ world.old) }
     {
         match request {

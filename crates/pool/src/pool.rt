@@ -397,15 +397,17 @@ impl Pool {
 
     /// The roots of the present datasets, or, where `last` is true, of those that the last sync left. The file systems come in byte order of
     /// their names; for each, the root of its live tree comes first, then those of its snapshots, the oldest first. `Image::read_tree` reads a
-    /// dataset from its root. NoMemory where the roots or their names can't be allocated. It costs the names.
+    /// dataset from its root. NoMemory where the roots or their names can't be allocated. It costs the names, and a node for each dataset, which the
+    /// pool's counts leave out.
     pub fn roots(&self, alloc: Global, last: bool) -> Result<Vec<DatasetRoot>, Refusal>
         ensures ok { IfOk result (λ roots. map shown_root roots.items ≡ roots_in (if last then self.now.state.last else self.now.state.now).file_systems) }
         ensures err { IfErr result (λ e. e ≡ Refusal.NoMemory) }
     {
+        let mut meter = Meter::new(Toll::new());
         if last {
-            return roots_of(alloc, &self.keep.last.table);
+            return roots_of(alloc, &self.keep.last.table, &mut meter);
         }
-        roots_of(alloc, &self.present.table)
+        roots_of(alloc, &self.present.table, &mut meter)
     }
 
     /// Does one step for each request, in order, and returns the replies. NoMemory where the list of replies can't be allocated; no step is done

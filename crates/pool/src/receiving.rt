@@ -1,5 +1,5 @@
 //! Receives of streams.
-ghost use Rattle.std.specs.Prelude.{◌≡◌, IfOk, OnErr};
+ghost use Rattle.std.specs.Prelude.{◌≡◌, ◌≤◌, IfOk, OnErr};
 ghost use Rattle.model.specs.declared.request.Request.{Request};
 ghost use Rattle.pool.specs.Pools.{state_in, IsHeld};
 ghost use Rattle.pool.specs.Effects.{IsPerformed, WritesBlocks};
@@ -28,6 +28,8 @@ impl Keep {
         ensures performed { IsPerformed (state_in self.now world.old) self.now.numbers.present world.new (Request.Receive snapshot.now bytes.now force) result }
         ensures blocks { IfOk result WritesBlocks }
         ensures unchanged { OnErr result (world.new ≡ world.old) }
+        ensures never_lower { meters.old.blocks ≤ meters.new.blocks }
+        ensures segments_never_lower { meters.old.segments ≤ meters.new.segments }
     {
         let present = Present {
             table: &world.table,

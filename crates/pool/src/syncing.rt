@@ -1,5 +1,5 @@
 //! Syncs, slices, and abandons, which go back to the last synced world.
-ghost use Rattle.std.specs.Prelude.{◌≡◌, OnErr};
+ghost use Rattle.std.specs.Prelude.{◌≡◌, ◌≤◌, OnErr};
 ghost use Rattle.model.specs.declared.request.Request.{Request};
 ghost use Rattle.pool.specs.Pools.{state_in, IsHeld};
 ghost use Rattle.pool.specs.Effects.{IsPerformed};
@@ -47,6 +47,7 @@ impl Keep {
         requires { IsHeld self.now world.old }
         ensures performed { IsPerformed (state_in self.now world.old) self.now.numbers.present world.new Request.Abandon result }
         ensures unchanged { OnErr result (world.new ≡ world.old) }
+        ensures never_lower { segments.old ≤ segments.new }
     {
         if self.views.len() > 0 {
             return Err(Refusal::Busy);
@@ -70,6 +71,8 @@ impl Keep {
         requires { IsHeld self.now world.old }
         ensures performed { IsPerformed (state_in self.now world.old) self.now.numbers.present world.new (Request.Slice count) result }
         ensures unchanged { OnErr result (world.new ≡ world.old) }
+        ensures never_lower { meters.old.blocks ≤ meters.new.blocks }
+        ensures segments_never_lower { meters.old.segments ≤ meters.new.segments }
     {
         let slice = world
             .freeing

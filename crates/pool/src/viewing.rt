@@ -1,5 +1,5 @@
 //! Views of a pool's snapshots.
-ghost use Rattle.std.specs.Prelude.{◌≡◌, ◌<◌, ◌^◌, ℕ, List, Some, None, IfOk, IfErr, OnErr};
+ghost use Rattle.std.specs.Prelude.{◌≡◌, ◌≤◌, ◌<◌, ◌^◌, ℕ, List, Some, None, IfOk, IfErr, OnErr};
 ghost use Rattle.std.specs.FinSet as set;
 ghost use Rattle.model.specs.declared.request.Request.{Request};
 ghost use Rattle.model.specs.declared.reply.Reply.{Reply};
@@ -76,6 +76,7 @@ impl Keep {
         requires { IsHeld self.now world.old }
         ensures performed { IsPerformed (state_in self.now world.old) self.now.numbers.present world.new (Request.CloseView number) result }
         ensures unchanged { OnErr result (world.new ≡ world.old) }
+        ensures never_lower { segments.old ≤ segments.new }
     {
         if self.views.find(number).is_none() {
             return Err(Refusal::NoView);

@@ -45,6 +45,7 @@ pub fn finish(
     ensures only { IfErr result IsNoSpaceOrNoMemory }
     ensures metered { OnOk result (CountsDropped (live_of table.old.file_systems name.now.file_system) (changes_of updates.now) meter.old meter.new) }
     ensures never_lower { meter.old ≤ meter.new }
+    ensures segments_never_lower { segments.old ≤ segments.new }
 {
     let name = name.member();
     let changed = table.apply_live(

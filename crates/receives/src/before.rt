@@ -1,5 +1,5 @@
 //! The datasets that a receive begins with.
-ghost use Rattle.std.specs.Prelude.{◌≡◌, ◌⊎◌, Some, None, IfSome, IfOk, IfErr, OnOk};
+ghost use Rattle.std.specs.Prelude.{◌≡◌, ◌≤◌, ◌⊎◌, Some, None, IfSome, IfOk, IfErr, OnOk};
 ghost use Rattle.std.specs.Option.{option_copied};
 ghost use Rattle.base.specs.declared.refusal.Refusal.{Refusal};
 ghost use Rattle.model.specs.World.{empty_file_system, union_of};
@@ -47,6 +47,7 @@ pub fn begin(
     ensures can { OnOk result (receive_refusal table.now name.now stream.now force ≡ None) }
     ensures refused { IfSome (receive_refusal table.now name.now stream.now force) (λ e. result ≡ Err e) }
     ensures only { IfErr result (λ e. (receive_refusal table.now name.now stream.now force ≡ Some e) ⊎ (e ≡ Refusal.NoMemory)) }
+    ensures never_lower { segments.old ≤ segments.new }
 {
     let name = name.member();
     if let Some(refusal) = receive_refusal(table, name, stream, force) {
@@ -71,6 +72,7 @@ fn start(
     ensures ok { IfOk result (λ e. e.to ≡ begun table.now name.now.file_system stream.now force) }
     ensures lost { IfOk result (λ e. HasLost table.now freeing.now e.to e.freeing) }
     ensures err { IfErr result (λ e. e ≡ Refusal.NoMemory) }
+    ensures never_lower { segments.old ≤ segments.new }
 {
     if stream.source().is_none() {
         return with_new(table, freeing, &name.file_system);
@@ -108,6 +110,7 @@ fn forced_back(
     ensures ok { IfOk result (λ e. e.to ≡ back table.now name.now) }
     ensures lost { IfOk result (λ e. HasLost table.now freeing.now e.to e.freeing) }
     ensures err { IfErr result (λ e. e ≡ Refusal.NoMemory) }
+    ensures never_lower { segments.old ≤ segments.new }
 {
     let Some(newest) = newest_named(table, name) else {
         return WorkingCopy::of(table, freeing);

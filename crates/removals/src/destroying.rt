@@ -1,5 +1,5 @@
 //! Destroys of file systems, snapshots and bookmarks.
-ghost use Rattle.std.specs.Prelude.{◌≡◌, ◌⊎◌, ◌&&◌, not, true, false, Some, None, IfSome, IfErr, OnOk, OnErr};
+ghost use Rattle.std.specs.Prelude.{◌≡◌, ◌≤◌, ◌⊎◌, ◌&&◌, not, true, false, Some, None, IfSome, IfErr, OnOk, OnErr};
 ghost use Rattle.base.specs.declared.refusal.Refusal.{Refusal};
 ghost use Rattle.base.specs.declared.name.target.Target.{Target};
 ghost use Rattle.base.specs.Names.{root_name};
@@ -70,6 +70,7 @@ fn remove_and_sweep(
     ensures unchanged { OnErr result (table.new ≡ table.old) }
     ensures kept { OnErr result (freeing.new ≡ freeing.old) }
     ensures err { IfErr result (λ e. e ≡ Refusal.NoMemory) }
+    ensures never_lower { segments.old ≤ segments.new }
 {
     let mut edit = WorkingCopy::of(table, freeing)?;
     remove_file_systems(&mut edit, alloc, table, name, recursive, segments)?;
@@ -99,6 +100,7 @@ fn destroy_file_systems(
     ensures unchanged { OnErr result (table.new ≡ table.old) }
     ensures kept { OnErr result (freeing.new ≡ freeing.old) }
     ensures only { IfErr result (λ e. (destroy_refusal table.old views.now.opened (Target.FileSystem name.now) recursive defer ≡ Some e) ⊎ (e ≡ Refusal.NoMemory)) }
+    ensures never_lower { segments.old ≤ segments.new }
 {
     table.facts();
     if let Some(refusal) = refusal_of(table, views, name, recursive, defer) {
@@ -146,6 +148,7 @@ pub fn destroy(
     ensures unchanged { OnErr result (table.new ≡ table.old) }
     ensures kept { OnErr result (freeing.new ≡ freeing.old) }
     ensures only { IfErr result (λ e. (destroy_refusal table.old views.now.opened target.now recursive defer ≡ Some e) ⊎ (e ≡ Refusal.NoMemory)) }
+    ensures never_lower { segments.old ≤ segments.new }
 {
     match target {
         Target::FileSystem(name) => destroy_file_systems(

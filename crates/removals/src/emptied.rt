@@ -1,5 +1,5 @@
 //! File systems that are emptied before they are removed.
-ghost use Rattle.std.specs.Prelude.{◌≡◌, [], false, Some, IsSome, IfOk, IfErr, OnOk, map};
+ghost use Rattle.std.specs.Prelude.{◌≡◌, ◌≤◌, [], false, Some, IsSome, IfOk, IfErr, OnOk, map};
 ghost use Rattle.std.specs.List.{filter, list_any};
 ghost use Rattle.std.specs.List.Sorted.{IsPermutation, IsNonDecreasingBy};
 ghost use Rattle.std.specs.FinMap.{get, entries};
@@ -98,6 +98,7 @@ fn empty_one(
     ensures ok { OnOk result (edit.new.to ≡ with_system edit.old.to file_system.now.name empty_file_system) }
     ensures lost { OnOk result (HasLost edit.old.to edit.old.freeing edit.new.to edit.new.freeing) }
     ensures err { IfErr result (λ e. e ≡ Refusal.NoMemory) }
+    ensures never_lower { segments.old ≤ segments.new }
 {
     edit.to.facts();
     edit.remove_newer(alloc, file_system, Group(0), segments)?;
@@ -121,6 +122,7 @@ pub(crate) fn empty_family(
     ensures ok { OnOk result (edit.new.to ≡ emptied table.now name.now) }
     ensures lost { OnOk result (HasLost edit.old.to edit.old.freeing edit.new.to edit.new.freeing) }
     ensures err { IfErr result (λ e. e ≡ Refusal.NoMemory) }
+    ensures never_lower { segments.old ≤ segments.new }
 {
     table.facts();
     let rows = rows_in_order(alloc, table, name)?;

@@ -1,5 +1,5 @@
 //! The removal of file systems, alone or with their descendants.
-ghost use Rattle.std.specs.Prelude.{◌≡◌, ◌||◌, true, false, IfErr, OnOk, OnErr, length, nat_lt};
+ghost use Rattle.std.specs.Prelude.{◌≡◌, ◌≤◌, ◌||◌, true, false, IfErr, OnOk, OnErr, length, nat_lt};
 ghost use Rattle.base.specs.declared.refusal.Refusal.{Refusal};
 ghost use Rattle.base.specs.declared.name.target.Target.{Target};
 ghost use Rattle.base.specs.Names.{root_name};
@@ -85,6 +85,7 @@ fn empty_and_remove(
     ensures ok { OnOk result (edit.new.to ≡ without_family table.now name.now true) }
     ensures lost { OnOk result (HasLost edit.old.to edit.old.freeing edit.new.to edit.new.freeing) }
     ensures err { IfErr result (λ e. e ≡ Refusal.NoMemory) }
+    ensures never_lower { segments.old ≤ segments.new }
 {
     empty_family(edit, alloc, table, name, segments)?;
     // A copy, since its rows are read while file systems are removed from the edit.
@@ -111,6 +112,7 @@ pub(crate) fn remove_file_systems(
     ensures ok { OnOk result (edit.new.to ≡ without_family table.now name.now recursive) }
     ensures lost { OnOk result (HasLost edit.old.to edit.old.freeing edit.new.to edit.new.freeing) }
     ensures err { IfErr result (λ e. e ≡ Refusal.NoMemory) }
+    ensures never_lower { segments.old ≤ segments.new }
 {
     if recursive {
         return empty_and_remove(edit, alloc, table, name, segments);

@@ -1,5 +1,5 @@
 //! Destroys of snapshots.
-ghost use Rattle.std.specs.Prelude.{◌≡◌, ◌⊎◌, Some, None, IfSome, IfErr, OnOk, OnErr};
+ghost use Rattle.std.specs.Prelude.{◌≡◌, ◌≤◌, ◌⊎◌, Some, None, IfSome, IfErr, OnOk, OnErr};
 ghost use Rattle.base.specs.declared.refusal.Refusal.{Refusal};
 ghost use Rattle.base.specs.declared.name.target.Target.{Target};
 ghost use Rattle.model.specs.World.{union_of};
@@ -43,6 +43,7 @@ pub(crate) fn destroy_snapshots(
     ensures unchanged { OnErr result (table.new ≡ table.old) }
     ensures kept { OnErr result (freeing.new ≡ freeing.old) }
     ensures only { IfErr result (λ e. (destroy_refusal table.old views.now.opened (Target.Snapshot name.now) recursive defer ≡ Some e) ⊎ (e ≡ Refusal.NoMemory)) }
+    ensures never_lower { segments.old ≤ segments.new }
 {
     table.facts();
     let all = find_all(alloc, table, name, recursive)?;

@@ -1,5 +1,5 @@
 //! The rollback of a file system to one of its snapshots.
-ghost use Rattle.std.specs.Prelude.{◌≡◌, ◌⊎◌, ◌||◌, false, Some, None, IfSome, IfErr, OnOk, OnErr, nat_lt};
+ghost use Rattle.std.specs.Prelude.{◌≡◌, ◌≤◌, ◌⊎◌, ◌||◌, false, Some, None, IfSome, IfErr, OnOk, OnErr, nat_lt};
 ghost use Rattle.std.specs.Option.{option_map};
 ghost use Rattle.std.specs.List.{find, list_any};
 ghost use Rattle.std.specs.FinMap.{get};
@@ -54,6 +54,7 @@ pub fn rollback(
     ensures unchanged { OnErr result (table.new ≡ table.old) }
     ensures kept { OnErr result (freeing.new ≡ freeing.old) }
     ensures only { IfErr result (λ e. (rollback_refusal table.old views.now.opened target.now later ≡ Some e) ⊎ (e ≡ Refusal.NoMemory)) }
+    ensures never_lower { segments.old ≤ segments.new }
 {
     let Target::Snapshot(name) = target else {
         return Err(Refusal::NotSnapshot);
@@ -129,6 +130,7 @@ fn roll_back(
     ensures ok { OnOk result (edit.new.to ≡ rolled edit.old.to (Target.Snapshot (record { file_system = file_system.now.name; component = component.now }))) }
     ensures lost { OnOk result (HasLost edit.old.to edit.old.freeing edit.new.to edit.new.freeing) }
     ensures err { IfErr result (λ e. e ≡ Refusal.NoMemory) }
+    ensures never_lower { segments.old ≤ segments.new }
 {
     edit.to.facts();
     edit.remove_newer(alloc, file_system, group, segments)?;

@@ -1,5 +1,5 @@
 //! Destroys deferred snapshots once their last clones are gone.
-ghost use Rattle.std.specs.Prelude.{◌≡◌, IfErr, OnOk, map};
+ghost use Rattle.std.specs.Prelude.{◌≡◌, ◌≤◌, IfErr, OnOk, map};
 ghost use Rattle.std.specs.Option.{option_map};
 ghost use Rattle.base.specs.declared.refusal.Refusal.{Refusal};
 ghost use Rattle.datasets.specs.Rows.{entry_of};
@@ -53,6 +53,7 @@ fn lose_unneeded(
     ensures ok { OnOk result (edit.new.to ≡ without_unneeded edit.old.to views.now.opened (snap_id id)) }
     ensures lost { OnOk result (HasLost edit.old.to edit.old.freeing edit.new.to edit.new.freeing) }
     ensures err { IfErr result (λ e. e ≡ Refusal.NoMemory) }
+    ensures never_lower { segments.old ≤ segments.new }
 {
     edit.to.facts();
     let owner = match unneeded(&edit.to, views, id) {
@@ -86,6 +87,7 @@ fn remove_unneeded_origin(
     ensures ok { OnOk result (edit.new.to ≡ without_origin edit.old.to views.now.opened (entry_of file_system.now)) }
     ensures lost { OnOk result (HasLost edit.old.to edit.old.freeing edit.new.to edit.new.freeing) }
     ensures err { IfErr result (λ e. e ≡ Refusal.NoMemory) }
+    ensures never_lower { segments.old ≤ segments.new }
 {
     match removed_origin(&edit.to, file_system) {
         Some(id) => lose_unneeded(edit, alloc, views, id, segments),
@@ -109,6 +111,7 @@ impl WorkingCopy {
         ensures ok { OnOk result (self.new.to ≡ swept self.old.to views.now.opened) }
         ensures lost { OnOk result (HasLost self.old.to self.old.freeing self.new.to self.new.freeing) }
         ensures err { IfErr result (λ e. e ≡ Refusal.NoMemory) }
+        ensures never_lower { segments.old ≤ segments.new }
     {
         self.to.facts();
         for id in ids {
@@ -134,6 +137,7 @@ pub(crate) fn sweep(
     ensures ok { OnOk result (edit.new.to ≡ swept edit.old.to views.now.opened) }
     ensures lost { OnOk result (HasLost edit.old.to edit.old.freeing edit.new.to edit.new.freeing) }
     ensures err { IfErr result (λ e. e ≡ Refusal.NoMemory) }
+    ensures never_lower { segments.old ≤ segments.new }
 {
     edit.to.facts();
     for file_system in table.file_systems() {

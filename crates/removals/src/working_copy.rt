@@ -1,5 +1,5 @@
 //! A copy of a table, from which datasets are removed.
-ghost use Rattle.std.specs.Prelude.{◌≡◌, ◌⊎◌, ◌↔◌, ◌&&◌, true, false, not, map, Some, is_some, IfOk, IfErr, OnOk, length};
+ghost use Rattle.std.specs.Prelude.{◌≡◌, ◌≤◌, ◌⊎◌, ◌↔◌, ◌&&◌, true, false, not, map, Some, is_some, IfOk, IfErr, OnOk, length};
 ghost use Rattle.std.specs.List.{list_any};
 ghost use Rattle.std.specs.FinMap.{get};
 ghost use Rattle.base.specs.declared.refusal.Refusal.{Refusal};
@@ -73,6 +73,7 @@ impl WorkingCopy {
         ensures ok { OnOk result (self.new.to ≡ without_snap self.old.to (snap_id id)) }
         ensures lost { OnOk result (HasLost self.old.to self.old.freeing self.new.to self.new.freeing) }
         ensures err { IfErr result (λ e. e ≡ Refusal.NoMemory) }
+        ensures never_lower { segments.old ≤ segments.new }
     {
         self.to.facts();
         let lost = self.to.remove_snapshot(alloc, file_system, id, segments)?;
@@ -94,6 +95,7 @@ impl WorkingCopy {
         ensures lost { OnOk result (HasLost self.old.to self.old.freeing self.new.to self.new.freeing) }
         ensures no_dataset { (result ≡ Err Refusal.NoDataset) ↔ (length (snaps_at self.old.to.file_systems name.now) ≡ 0) }
         ensures only { IfErr result (λ e. (e ≡ Refusal.NoDataset) ⊎ (e ≡ Refusal.NoMemory)) }
+        ensures never_lower { segments.old ≤ segments.new }
     {
         self.to.facts();
         let lost = self.to.rollback(alloc, name, segments)?;
@@ -132,6 +134,7 @@ impl WorkingCopy {
         ensures ok { OnOk result (self.new.to ≡ removed_or_deferred table.now (λ u. defer && is_needed (world_of table.now) views.now.opened u) (map (λ p. id_of p.1) all.now)) }
         ensures lost { OnOk result (HasLost self.old.to self.old.freeing self.new.to self.new.freeing) }
         ensures err { IfErr result (λ e. e ≡ Refusal.NoMemory) }
+        ensures never_lower { segments.old ≤ segments.new }
     {
         table.facts();
         for found in all {
@@ -161,6 +164,7 @@ impl WorkingCopy {
         ensures ok { OnOk result (self.new.to ≡ with_snaps_upto self.old.to file_system.now.name group.0) }
         ensures lost { OnOk result (HasLost self.old.to self.old.freeing self.new.to self.new.freeing) }
         ensures err { IfErr result (λ e. e ≡ Refusal.NoMemory) }
+        ensures never_lower { segments.old ≤ segments.new }
     {
         self.to.facts();
         let name = file_system.name();

@@ -1,5 +1,5 @@
 //! The stream of a send, as bytes.
-ghost use Rattle.std.specs.Prelude.{◌≡◌, IfOk, OnErr};
+ghost use Rattle.std.specs.Prelude.{◌≡◌, ◌≤◌, IfOk, OnErr};
 ghost use Rattle.base.specs.declared.refusal.Refusal.{Refusal};
 ghost use Rattle.stream.specs.Spelling.{spell, guid_number};
 ghost use Rattle.laws.specs.Laws.{sending_of};
@@ -27,6 +27,7 @@ pub fn stream_bytes(
 ) -> Result<Bytes, Refusal>
     ensures ok { IfOk result (λ b. b ≡ spell (sending_of (guid_number source) target.0 tree.now since.0)) }
     ensures err { OnErr result (result ≡ Err Refusal.NoMemory) }
+    ensures never_lower { meter.old ≤ meter.new }
 {
     let stream = Stream::new(source, target, records(alloc, tree, since, meter)?);
     let mut writer = Counted::new(Vec::new(alloc));

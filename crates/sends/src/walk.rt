@@ -1,5 +1,5 @@
 //! The records of a send, by a walk from the top of a tree.
-ghost use Rattle.std.specs.Prelude.{◌≡◌, ℕ, true, false, Some, IfOk, OnOk, OnErr, IfSome};
+ghost use Rattle.std.specs.Prelude.{◌≡◌, ◌≤◌, ℕ, true, false, Some, IfOk, OnOk, OnErr, IfSome};
 ghost use Rattle.base.specs.Key.{IsKey};
 ghost use Rattle.base.specs.declared.refusal.Refusal.{Refusal};
 ghost use Rattle.stream.specs.Records.{records_since};
@@ -26,6 +26,7 @@ pub fn records(
 ) -> Result<Vec<Record>, Refusal>
     ensures ok { IfOk result (λ rs. rs.items ≡ records_since tree.now since.0) }
     ensures err { OnErr result (result ≡ Err Refusal.NoMemory) }
+    ensures never_lower { meter.old ≤ meter.new }
 {
     let mut records = Vec::new(alloc);
     let root = Key { level: 5, index: 0 };
@@ -37,6 +38,7 @@ pub fn records(
 fn is_young(top: &Subtree, since: Group, meter: &mut Meter) -> bool
     ensures young { result ≡ true → IsYoung since.0 top.now }
     ensures old { result ≡ false → IsOld since.0 top.now }
+    ensures never_lower { meter.old ≤ meter.new }
 {
     since.0 < top.block(meter).birth.0
 }
@@ -52,6 +54,7 @@ fn add_leaf(
     requires { IsAt (leaf_key leaf) top.now }
     ensures ok { OnOk result ((t : ℕ) → IsYoung t top.now → AddsSent t (leaf_key leaf) (Some top.now) records.old.items records.new.items) }
     ensures err { OnErr result (result ≡ Err Refusal.NoMemory) }
+    ensures never_lower { meter.old ≤ meter.new }
 {
     let Some(bytes) = top.bytes(meter) else {
         return Ok(());
@@ -74,6 +77,7 @@ fn add_sent(
     requires there { IfSome part (IsAt key) }
     ensures ok { OnOk result (AddsSent since.0 key part records.old.items records.new.items) }
     ensures err { OnErr result (result ≡ Err Refusal.NoMemory) }
+    ensures never_lower { meter.old ≤ meter.new }
 {
     let Some(top) = part else {
         records.push(Record::Free(key))?;
@@ -90,7 +94,14 @@ fn add_sent(
             level: key.level - 1,
             index: 16 * key.index + place,
         };
-        add_sent(alloc, top.child(place)?, child, since, records, meter)?;
+        add_sent(
+            alloc,
+            top.child(place, meter)?,
+            child,
+            since,
+            records,
+            meter,
+        )?;
     }
     Ok(())
 }

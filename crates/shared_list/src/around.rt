@@ -1,4 +1,4 @@
-//! What stands around a place of a list.
+//! The elements around a place of a list.
 ghost use Rattle.std.specs.Prelude.{◌≡◌, ◌+◌, None, Some, take, slice_get, IfSome};
 ghost use Rattle.std.specs.List.{last_or};
 ghost use Rattle.std.specs.Option.{option_copied};
@@ -10,7 +10,7 @@ use crate::chunk::Chunk;
 use crate::place::{Place, last_item};
 use crate::spine::Spine;
 
-/// What stands around a place of a list: the element before it, the one that stands there, and the one after that.
+/// The elements around a place of a list: the one before it, the one at it, and the one after it. Each is None where there is none.
 #[derive(Drop)]
 pub struct Around<'a, T> {
     pub before: Option<&'a T>,
@@ -18,8 +18,8 @@ pub struct Around<'a, T> {
     pub after: Option<&'a T>,
 }
 
-/// What stands around a place, or around the one behind all elements. It costs a walk over the groups, or two where its chunk begins or
-/// ends there.
+/// The elements around a place; None is the place after all elements. It costs a walk over the groups, and one more for each neighbour in
+/// another chunk.
 pub(crate) fn around_place<T: Drop>(chunks: &Spine<Chunk<T>>, place: Option<Place>) -> Around<'_, T>
     requires { IfSome place (λ c. IsItem (λ v. v) chunks.now c.k c.at) }
     ensures { IsAround (flattened chunks.now) (place_index (λ v. v) chunks.now place) result }
@@ -39,8 +39,8 @@ pub(crate) fn around_place<T: Drop>(chunks: &Spine<Chunk<T>>, place: Option<Plac
     }
 }
 
-/// The element before a place of this chunk, or None where there is none. Constant time, and a walk over the groups where the chunk
-/// begins there.
+/// The element before a place of this chunk, or None where there is none. Constant time, or a walk over the groups where the place is the first
+/// of its chunk.
 fn item_before<'a, T: Drop>(
     chunks: &'a Spine<Chunk<T>>,
     chunk: &'a Chunk<T>,
@@ -57,8 +57,8 @@ fn item_before<'a, T: Drop>(
     Some(chunks.at(k).last())
 }
 
-/// The element after a place of this chunk, or None where there is none. Constant time, and a walk over the groups where the chunk ends
-/// there.
+/// The element after a place of this chunk, or None where there is none. Constant time, or a walk over the groups where the place is the last of
+/// its chunk.
 fn item_after<'a, T: Drop>(
     chunks: &'a Spine<Chunk<T>>,
     chunk: &'a Chunk<T>,

@@ -1,4 +1,4 @@
-//! One change of a chunk, and of a chunk within another.
+//! Changes of a chunk, and of a chunk within a group.
 ghost use Rattle.std.specs.Prelude.{◌≡◌, ◌<◌, List, Some, length, slice_get, slice_set, IfOk, OnOk, OnErr};
 ghost use Rattle.shared_list.specs.Changes.{CanChange, changed};
 
@@ -9,15 +9,15 @@ use std::sync::Arc;
 /// One change of a chunk.
 #[derive(Drop)]
 pub(crate) enum Change<T> {
-    /// One more element, which gets that index.
+    /// Inserts an element, which gets that index.
     Put(usize, Arc<T>),
-    /// Another one in the place of the one with that index.
+    /// Replaces the element with that index.
     Set(usize, Arc<T>),
-    /// Without the one with that index, where there are more.
+    /// Removes the element with that index. There must be more than one.
     Take(usize),
 }
 
-/// What a change makes of a chunk, in one made anew.
+/// A new chunk, which is this one after a change.
 fn made_anew<T: Drop>(chunk: &Chunk<T>, change: Change<T>) -> Result<Arc<Chunk<T>>, AllocError>
     requires { CanChange chunk.now change }
     ensures { IfOk result (λ c. c.value ≡ changed chunk.now change) }
@@ -29,7 +29,7 @@ fn made_anew<T: Drop>(chunk: &Chunk<T>, change: Change<T>) -> Result<Arc<Chunk<T
     }
 }
 
-/// Changes a chunk: where it is, if it has no other owner, and else one made anew comes to its place.
+/// Changes a chunk: in place if it has no other owner, and else a new chunk replaces it.
 fn change_in<T: Drop>(place: &mut Arc<Chunk<T>>, change: Change<T>) -> Result<(), AllocError>
     requires { CanChange place.old.value change }
     ensures ok { OnOk result (place.new.value ≡ changed place.old.value change) }
@@ -45,8 +45,7 @@ fn change_in<T: Drop>(place: &mut Arc<Chunk<T>>, change: Change<T>) -> Result<()
     }
 }
 
-/// Changes the chunk with index j of a chunk of chunks: where they are, if neither has another owner, and else those made anew come to
-/// their places.
+/// Changes the chunk with index j of a group: in place if neither the chunk nor the group has another owner, and else new versions replace them.
 pub(crate) fn change_within<T: Drop>(
     place: &mut Arc<Chunk<Chunk<T>>>,
     j: usize,
@@ -67,7 +66,7 @@ pub(crate) fn change_within<T: Drop>(
     Ok(())
 }
 
-/// The same of a chunk of chunks that has no other owner.
+/// Changes the chunk with index j of a group that has no other owner.
 fn change_at<T: Drop>(
     group: &mut Chunk<Chunk<T>>,
     j: usize,

@@ -1,4 +1,4 @@
-//! Chunks of a list, which change only where they have one owner.
+//! Chunks of a list. A chunk is changed only while it has a single owner.
 ghost use Rattle.std.specs.Prelude.{◌≡◌, Some, ◌+◌, ◌-◌, ◌<◌, ◌≤◌, ◌++◌, ◌∷◌, [], false, Bool, length, take, drop, insert, remove, slice_get, slice_set, IfOk, OnOk, OnErr};
 ghost use Rattle.std.specs.Fn.{ComputesKey};
 ghost use Rattle.shared_list.specs.Cuts.{IsCut};
@@ -13,10 +13,10 @@ use std::sync::Arc;
 /// How many elements a full chunk has (profile).
 pub(crate) const CHUNK: usize = 64;
 
-/// How many of them the first chunk keeps, where a full one becomes two (profile).
+/// How many elements the first chunk keeps when a full one is split in two (profile).
 const HALF: usize = 32;
 
-/// Some elements, from 1 to `CHUNK`, each of which other chunks may own too.
+/// 1 to `CHUNK` elements. Other chunks may own each of them too.
 #[derive(Drop)]
 pub struct Chunk<T> {
     pub(crate) items: Vec<Arc<T>>,
@@ -60,7 +60,7 @@ impl<T: Drop> Chunk<T> {
         &self.items[index]
     }
 
-    /// Its elements and one more, which gets that index.
+    /// A new chunk with its elements and one more, which gets that index.
     #[tactic(auto, using(crate::proofs::Chunks::mapped))]
     pub(crate) fn with(&self, at: usize, item: Arc<T>) -> Result<Arc<Chunk<T>>, AllocError>
         requires room { length self.now < CHUNK }
@@ -75,7 +75,7 @@ impl<T: Drop> Chunk<T> {
         Ok(Arc::new(alloc, Chunk { items })?)
     }
 
-    // Puts one more element at that index.
+    // Inserts an element at that index.
     fn put(&mut self, at: usize, item: Arc<T>) -> Result<(), AllocError>
         requires room { length self.old < CHUNK }
         requires at { at ≤ length self.old }
@@ -86,7 +86,7 @@ impl<T: Drop> Chunk<T> {
         Ok(())
     }
 
-    /// Its elements but the one with that index.
+    /// A new chunk with its elements, without the one with that index.
     #[tactic(auto, using(crate::proofs::Chunks::mapped))]
     pub(crate) fn without(&self, index: usize) -> Result<Arc<Chunk<T>>, AllocError>
         requires index { index < length self.now }
@@ -100,7 +100,7 @@ impl<T: Drop> Chunk<T> {
         Ok(Arc::new(alloc, Chunk { items })?)
     }
 
-    // Takes out the element with that index.
+    // Removes and answers the element with that index.
     fn take(&mut self, at: usize) -> Arc<T>
         requires at { at < length self.old }
         requires more { 1 < length self.old }
@@ -110,7 +110,7 @@ impl<T: Drop> Chunk<T> {
         self.items.remove(at)
     }
 
-    /// Its elements with that one in the place of the one with that index.
+    /// A new chunk with its elements, where this one replaces the one with that index.
     #[tactic(auto, using(crate::proofs::Chunks::mapped))]
     pub(crate) fn with_other(&self, at: usize, item: Arc<T>) -> Result<Arc<Chunk<T>>, AllocError>
         requires { at < length self.now }
@@ -123,7 +123,7 @@ impl<T: Drop> Chunk<T> {
         Ok(Arc::new(alloc, Chunk { items })?)
     }
 
-    // Puts that one in the place of the element with that index.
+    // Replaces the element with that index by this one.
     fn replace(&mut self, at: usize, item: Arc<T>)
         requires { at < length self.old }
         ensures { self.new ≡ slice_set self.old at item.value }
@@ -139,7 +139,7 @@ impl<T: Drop> Chunk<T> {
         Ok(Arc::try_clone(&self.items[at])?)
     }
 
-    /// Its elements before that index, and the others.
+    /// Two new chunks: one with its elements before that index, and one with the others.
     #[tactic(auto, using(crate::proofs::Chunks::mapped))]
     pub(crate) fn split(&self, index: usize) -> Result<(Arc<Chunk<T>>, Arc<Chunk<T>>), AllocError>
         requires some { 0 < index }
@@ -156,7 +156,7 @@ impl<T: Drop> Chunk<T> {
         Ok((low, high))
     }
 
-    /// Its elements and one more, which gets that index, in two chunks. It is full.
+    /// Two new chunks with its elements and one more, which gets that index. This chunk must be full.
     pub(crate) fn split_with(
         &self,
         at: usize,
@@ -175,7 +175,7 @@ impl<T: Drop> Chunk<T> {
         Ok((low, high))
     }
 
-    /// Its elements and the other's behind them.
+    /// A new chunk with its elements, followed by those of the other.
     pub(crate) fn joined(&self, other: &Chunk<T>) -> Result<Arc<Chunk<T>>, AllocError>
         requires { length self.now + length other.now ≤ CHUNK }
         ensures { IfOk result (λ c. c.value ≡ self.now ++ other.now) }
@@ -209,8 +209,8 @@ impl<T: Drop> Chunk<T> {
         test(self.last())
     }
 
-    /// The index of the first element that doesn't pass a test, where those that pass come first. The last one isn't asked: it doesn't
-    /// pass. It costs the logarithm of their number.
+    /// The index of the first element that doesn't pass a test. The elements that pass must come first, and the last element must not pass: it
+    /// isn't tested. It costs the logarithm of their number.
     pub(crate) fn point<P: Fn(&T) -> bool>(&self, test: &P) -> usize
         requires { P.IsAlwaysCallable test.now }
         ensures within { result < length self.now }
@@ -219,7 +219,7 @@ impl<T: Drop> Chunk<T> {
         cut_of(&self.items[..self.items.len() - 1], test)
     }
 
-    /// Its elements, in the owners that it has.
+    /// The owners of its elements.
     pub fn items(&self) -> &[Arc<T>]
         ensures { values result.now ≡ self.now }
     {
@@ -227,8 +227,8 @@ impl<T: Drop> Chunk<T> {
     }
 }
 
-/// The room that a chunk with so many elements is made with: a few sizes alone (profile), so that the next chunk is made where the last one
-/// was, and a few more elements need no other room.
+/// The capacity of a new chunk with this many elements. There are only a few sizes (profile), so that a new chunk can reuse the memory of the
+/// last one that was freed, and a few more elements fit without a reallocation.
 fn room_for(len: usize) -> usize {
     match len {
         0..=4 => 8,
@@ -238,7 +238,7 @@ fn room_for(len: usize) -> usize {
     }
 }
 
-/// Puts one more owner of each item behind the others.
+/// Adds one more owner of each item at the end.
 fn share<T: Drop>(to: &mut Vec<Arc<T>>, items: &[Arc<T>]) -> Result<(), AllocError>
     ensures { OnOk result (values to.new.items ≡ values to.old.items ++ values items.now) }
 {
@@ -248,8 +248,7 @@ fn share<T: Drop>(to: &mut Vec<Arc<T>>, items: &[Arc<T>]) -> Result<(), AllocErr
     Ok(())
 }
 
-/// Puts one more element into a chunk at that index: where the chunk is, if it has no other owner, and else in a chunk made anew, which
-/// comes to its place.
+/// Inserts an element into a chunk at that index: in place if the chunk has no other owner, and else in a new chunk, which replaces it.
 pub(crate) fn put_in<T: Drop>(
     place: &mut Arc<Chunk<T>>,
     at: usize,
@@ -268,8 +267,7 @@ pub(crate) fn put_in<T: Drop>(
     Ok(())
 }
 
-/// Puts an element into a chunk, in the place of the one with that index: where the chunk is, if it has no other owner, and else in a
-/// chunk made anew, which comes to its place.
+/// Replaces the element with that index of a chunk: in place if the chunk has no other owner, and else in a new chunk, which replaces it.
 pub(crate) fn set_in<T: Drop>(
     place: &mut Arc<Chunk<T>>,
     at: usize,
@@ -288,8 +286,8 @@ pub(crate) fn set_in<T: Drop>(
     Ok(())
 }
 
-/// Takes the element with that index out of a chunk that has more: where the chunk is, if it has no other owner, and else a chunk made
-/// anew comes to its place.
+/// Removes and answers the element with that index of a chunk, which must have more than one. It is done in place if the chunk has no other
+/// owner, and else a new chunk replaces it.
 pub(crate) fn take_from<T: Drop>(place: &mut Arc<Chunk<T>>, at: usize) -> Result<Arc<T>, AllocError>
     requires at { at < length place.old.value }
     requires more { 1 < length place.old.value }

@@ -17,9 +17,9 @@ fn passes<A: Drop, P: Fn(&A) -> bool>(items: &[Arc<A>], at: usize, test: &P) -> 
     test(&items[at])
 }
 
-/// Where the items that pass a test end: the one before that index passes, and the one with it doesn't. Where those that pass come first,
-/// it is the index of the first that doesn't. It costs the logarithm of their number: each turn asks the item in the middle and those in
-/// the middle of both halves side by side, before it is known which half counts, so that memory is waited for once for two bisections.
+/// An index at which the items that pass a test end: the item before it passes, and the item at it doesn't. If the items that pass come first,
+/// it is the index of the first item that doesn't pass. It costs the logarithm of their number. Each turn tests the item in the middle and those
+/// in the middle of both halves in parallel, before it is known which half is needed. So two bisections wait for memory only once.
 pub(crate) fn cut_of<A: Drop, P: Fn(&A) -> bool>(items: &[Arc<A>], test: &P) -> usize
     requires { P.IsAlwaysCallable test.now }
     ensures within { result ≤ length items.now }

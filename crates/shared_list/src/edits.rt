@@ -1,4 +1,4 @@
-//! Edits of the chunks themselves, for what keeps elements in an order of its own and finds their places by it.
+//! Edits of the chunks themselves, for callers that keep elements in an order of their own and find their places by it.
 ghost use Rattle.std.specs.Prelude.{◌≡◌, ◌+◌, ◌-◌, ◌<◌, ◌≤◌, List, Some, ◌++◌, ◌∷◌, [], length, take, drop, insert, remove, slice_get, slice_set, IfOk, OnOk, OnErr};
 ghost use Rattle.shared_list.specs.Elements.{flattened};
 ghost use Rattle.shared_list.specs.Places.{IsPlace, IsItem};
@@ -10,9 +10,8 @@ use crate::spine::Spine;
 use std::alloc::AllocError;
 use std::sync::Arc;
 
-/// Puts an element behind the others, into the last chunk, or, where that is full, into another. It costs a walk over the groups, where
-/// the last chunk and its group have no other owner; else these are made anew. AllocError where memory is refused; then the elements are
-/// as they were.
+/// Adds an element at the end, in a new chunk if the last one is full. It costs a walk over the groups if the last chunk and its group have no
+/// other owner; else new versions of these two are made. AllocError where memory is refused; then the elements are unchanged.
 pub fn push_item<T: Drop>(chunks: &mut Spine<Chunk<T>>, item: Arc<T>) -> Result<(), AllocError>
     ensures ok { OnOk result (flattened chunks.new ≡ flattened chunks.old ++ item.value ∷ []) }
     ensures err { OnErr result (flattened chunks.new ≡ flattened chunks.old) }
@@ -29,9 +28,9 @@ pub fn push_item<T: Drop>(chunks: &mut Spine<Chunk<T>>, item: Arc<T>) -> Result<
     chunks.push_shared(fresh)
 }
 
-/// Puts an element at that place of that chunk, before what stands there. It costs a walk over the groups, and is done in place where the
-/// chunk and its group have no other owner and it isn't full; a full one becomes two, in a copy whose groups that change are made anew.
-/// AllocError where memory is refused; then the elements are as they were.
+/// Inserts an element at index `at` of chunk `k`. It costs a walk over the groups. It is done in place if the chunk and its group have no other
+/// owner and the chunk isn't full. A full chunk is split in two, in a copy of the spine with new versions of the groups that change. AllocError
+/// where memory is refused; then the elements are unchanged.
 pub fn insert_item<T: Drop>(
     chunks: &mut Spine<Chunk<T>>,
     k: usize,
@@ -52,7 +51,7 @@ pub fn insert_item<T: Drop>(
     Ok(())
 }
 
-/// A copy with two chunks in the place of one.
+/// A copy in which two chunks replace chunk `k`.
 fn with_two<T: Drop>(
     chunks: &Spine<Chunk<T>>,
     k: usize,
@@ -69,9 +68,8 @@ fn with_two<T: Drop>(
     Ok(copy)
 }
 
-/// Puts an element at that place of that chunk, instead of what stands there. It costs a walk over the groups, and is done in place where
-/// the chunk and its group have no other owner; else these are made anew. AllocError where memory is refused; then the elements are as
-/// they were.
+/// Replaces the element at index `at` of chunk `k`. It costs a walk over the groups. It is done in place if the chunk and its group have no
+/// other owner; else new versions of these two are made. AllocError where memory is refused; then the elements are unchanged.
 pub fn set_item<T: Drop>(
     chunks: &mut Spine<Chunk<T>>,
     k: usize,
@@ -86,8 +84,7 @@ pub fn set_item<T: Drop>(
     Ok(())
 }
 
-/// Takes out the element at that place of that chunk, as `remove_item` does, but leaves two neighbours that fit in one chunk as they
-/// are.
+/// Removes and answers the element at index `at` of chunk `k`, as `remove_item` does, but doesn't merge neighbouring chunks.
 pub(crate) fn take_item<T: Drop>(
     chunks: &mut Spine<Chunk<T>>,
     k: usize,
@@ -108,10 +105,10 @@ pub(crate) fn take_item<T: Drop>(
     Ok(item)
 }
 
-/// Takes out the element at that place of that chunk, and gives it. It costs a walk over the groups, and is done in place where the chunk
-/// and its group have no other owner; else these are made anew. A chunk that is emptied goes, and neighbours that fit in one chunk become
-/// one, in a copy whose groups that change are made anew, unless memory for it is refused, which is no error. AllocError where memory is
-/// refused for the removal; then the elements are as they were.
+/// Removes and answers the element at index `at` of chunk `k`. It costs a walk over the groups. It is done in place if the chunk and its group
+/// have no other owner; else new versions of these two are made. A chunk that is emptied is removed. Neighbouring chunks that fit in one are
+/// merged, in a copy of the spine with new versions of the groups that change, unless memory for it is refused, which is not an error.
+/// AllocError where memory is refused for the removal; then the elements are unchanged.
 pub fn remove_item<T: Drop>(
     chunks: &mut Spine<Chunk<T>>,
     k: usize,
@@ -128,7 +125,7 @@ pub fn remove_item<T: Drop>(
     Ok(item)
 }
 
-/// Makes one chunk of that one and the one before it, where they fit in one and there is memory for it.
+/// Merges chunk `k` with the one before it, if they fit in one chunk and there is memory for it.
 pub(crate) fn join<T: Drop>(chunks: &mut Spine<Chunk<T>>, k: usize)
     ensures { flattened chunks.new ≡ flattened chunks.old }
 {
@@ -143,7 +140,7 @@ pub(crate) fn join<T: Drop>(chunks: &mut Spine<Chunk<T>>, k: usize)
     }
 }
 
-/// A copy with one chunk in the place of that one and the one before it, which fit in one.
+/// A copy in which one chunk replaces chunk `k` and the one before it. The two must fit in one chunk.
 fn with_joined<T: Drop>(chunks: &Spine<Chunk<T>>, k: usize) -> Result<Spine<Chunk<T>>, AllocError>
     requires some { 0 < k }
     requires k { k < length chunks.now }
@@ -157,7 +154,7 @@ fn with_joined<T: Drop>(chunks: &Spine<Chunk<T>>, k: usize) -> Result<Spine<Chun
     Ok(copy)
 }
 
-/// Keeps the elements before that index, and gives the chunks of the others.
+/// Keeps the elements before that index, and answers the chunks of the others.
 pub(crate) fn cut_off<T: Drop>(
     chunks: &mut Spine<Chunk<T>>,
     index: usize,
@@ -181,7 +178,7 @@ pub(crate) fn cut_off<T: Drop>(
     Ok(rest)
 }
 
-/// Moves the other chunks behind these.
+/// Moves the chunks of `other` to the end of `chunks`.
 pub(crate) fn pour<T: Drop>(
     chunks: &mut Spine<Chunk<T>>,
     other: &mut Spine<Chunk<T>>,

@@ -8,7 +8,7 @@ use crate::chunk::Chunk;
 use crate::spine::SpineIter;
 use std::sync::Arc;
 
-/// An iterator over the elements of a shared list, first to last, each in constant time. Contracts see by `left` which are left.
+/// An iterator over the elements of a shared list, first to last, each in constant time. Contracts see the elements that are left as `left`.
 #[derive(Drop)]
 pub struct Iter<'a, T> {
     here: &'a [Arc<T>],

@@ -1,7 +1,7 @@
-//! Lists whose copies share what they have in common.
+//! Lists whose copies share memory.
 //!
-//! A list stands in chunks of at most 64 elements, and these in groups of at most 64 chunks. A copy shares all of them, and a change makes
-//! a few of them anew, so that versions that differ in little take little more memory than one.
+//! A list has its elements in chunks of at most 64, and its chunks in groups of at most 64. A copy shares all of them, and a change replaces a
+//! few of them by new ones (copy on write). So versions that differ little take little more memory than one.
 #![tactic(auto)]
 
 mod around;

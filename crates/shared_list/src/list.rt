@@ -1,4 +1,4 @@
-//! The list, and how its chunks change.
+//! The shared list.
 ghost use Rattle.std.specs.Prelude.{◌≡◌, ◌-◌, ◌<◌, ◌≤◌, ◌++◌, ◌∷◌, ◌↔◌, ℕ, [], None, true, false, Bool, length, take, drop, remove, slice_get, slice_set, IfOk, OnOk, OnErr};
 ghost use Rattle.std.specs.Arc.{arc_value};
 ghost use Rattle.std.specs.Fn.{ComputesKey};
@@ -22,16 +22,15 @@ use std::sync::Arc;
 
 /// Elements in order. Contracts see the plain list of their values.
 ///
-/// They stand in chunks of 1 to 64 elements, and the chunks in groups of 1 to 64 (profile), which copies share. No element is ever
-/// cloned: a copy takes one more owner of each group, and a change makes at most three chunks anew, each by one more owner of each of
-/// its elements, and the groups that they stand in, each by one more owner of each of its chunks. A chunk that no copy has is changed
-/// where it is by `push`, `pop_shared`, `set_shared` and `remove`. A push fills the last chunk before it begins another; `remove` and
-/// `append` make one chunk of two neighbours that fit in one, unless memory for it is refused, which is no error; `split_off` can leave
-/// a chunk that isn't full on each side of the cut. So how many chunks there are no clause says. Where they are full, a group has 4,096
-/// elements.
+/// The elements are in chunks of 1 to 64, and the chunks in groups of 1 to 64 (profile), which copies share. No element is ever cloned. A copy
+/// takes one more owner of each group. A change makes at most three new chunks, each by one more owner of each of its elements, and new versions
+/// of their groups, each by one more owner of each of its chunks. `push`, `pop_shared`, `set_shared` and `remove` change a chunk in place if no
+/// copy shares it. A push fills the last chunk before it begins another. `remove` and `append` merge two neighbouring chunks that fit in one,
+/// unless memory for it is refused, which is not an error. `split_off` can leave a chunk that isn't full on each side of the cut. So no contract
+/// says how many chunks there are. Where they are full, a group has 4,096 elements.
 ///
-/// Each element takes memory of its own, and a pointer in each chunk that has it, and each chunk a pointer in each group that has it. A
-/// call that is refused memory answers AllocError, and changes no list.
+/// Each element takes memory of its own, and a pointer in each chunk that has it. Each chunk takes a pointer in each group that has it. A call
+/// that is refused memory answers AllocError, and changes no list.
 #[derive(Drop)]
 pub struct SharedList<T> {
     chunks: Spine<Chunk<T>>,
@@ -67,8 +66,8 @@ impl<T: Drop> SharedList<T> {
         self.len
     }
 
-    /// The element with that index, counted from 0, or None where the list ends before it. It costs a walk over the chunks before
-    /// it: to go through a list, take `iter`.
+    /// The element with that index, counted from 0, or None where the list ends before it. It costs a walk over the chunks before it. To read
+    /// all elements, use `iter`.
     pub fn get(&self, index: usize) -> Option<&T>
         ensures { option_copied result ≡ slice_get self.now index }
     {
@@ -86,7 +85,7 @@ impl<T: Drop> SharedList<T> {
         last_item(&self.chunks)
     }
 
-    /// The index of the first element that doesn't pass a test, where those that pass come first; the length, where all pass. It costs
+    /// The index of the first element that doesn't pass a test, or the length where all pass. The elements that pass must come first. It costs
     /// the logarithm of the number of elements, and a walk over the chunks before that one.
     pub fn partition_point<P: Fn(&T) -> bool>(&self, test: P) -> usize
         requires { P.IsAlwaysCallable test }
@@ -99,7 +98,7 @@ impl<T: Drop> SharedList<T> {
         }
     }
 
-    /// The first element that doesn't pass a test, where those that pass come first, or None where all pass. It costs the logarithm of the
+    /// The first element that doesn't pass a test, or None where all pass. The elements that pass must come first. It costs the logarithm of the
     /// number of elements.
     pub fn first<P: Fn(&T) -> bool>(&self, test: P) -> Option<&T>
         requires { P.IsAlwaysCallable test }
@@ -108,8 +107,8 @@ impl<T: Drop> SharedList<T> {
         first(&self.chunks, test)
     }
 
-    /// The first element that doesn't pass a test, where those that pass come first, with the one before it and the one after it; each is
-    /// None where there is none. It costs the logarithm of the number of elements, and at most four walks over the groups.
+    /// The first element that doesn't pass a test, with the one before it and the one after it; each is None where there is none. The elements
+    /// that pass must come first. It costs the logarithm of the number of elements, and at most four walks over the groups.
     pub fn around<P: Fn(&T) -> bool>(&self, test: P) -> Around<'_, T>
         requires { P.IsAlwaysCallable test }
         ensures { (i : ℕ) × ((p : T → Bool) → ComputesKey P.FnMut p test → IsPartitionedBy p self.now → IsPartitionPoint (λ y. p y ≡ true) (λ y. p y ≡ false) self.now i) × IsAround self.now i result }
@@ -124,7 +123,7 @@ impl<T: Drop> SharedList<T> {
         Iter::new(self.chunks.iter())
     }
 
-    /// An equal list, by one more owner of each group: it costs the groups, and neither their chunks nor the elements. AllocError where
+    /// An equal list, by one more owner of each group. It costs the number of groups, and not that of chunks or elements. AllocError where
     /// memory is refused.
     pub fn copy(&self) -> Result<SharedList<T>, AllocError>
         ensures { IfOk result (λ l. l ≡ self.now) }
@@ -134,9 +133,9 @@ impl<T: Drop> SharedList<T> {
         Ok(SharedList { chunks, len })
     }
 
-    /// Adds an element at the end. It costs a walk over the groups, and a growth of what holds the pointers now and then, where the last
-    /// chunk and its group have no other owner; else these are made anew. Where the chunk is full it begins another. AllocError where
-    /// memory is refused or there are as many elements as a usize counts; then the list is as it was, and the element is dropped.
+    /// Adds an element at the end, in a new chunk if the last one is full. If the last chunk and its group have no other owner, it costs a walk
+    /// over the groups, and sometimes the growth of a vector of pointers; else new versions of these two are made. AllocError where memory is
+    /// refused or there are as many elements as a usize counts; then the list is unchanged, and the element is dropped.
     pub fn push(&mut self, value: T) -> Result<(), AllocError>
         ensures ok { OnOk result (self.new ≡ self.old ++ value ∷ []) }
         ensures err { OnErr result (self.new ≡ self.old) }
@@ -145,7 +144,7 @@ impl<T: Drop> SharedList<T> {
         self.push_shared(item)
     }
 
-    /// Adds at the end an element that has other owners, as `push` does.
+    /// Adds an element, which may have other owners, at the end, as `push` does.
     pub fn push_shared(&mut self, item: Arc<T>) -> Result<(), AllocError>
         ensures ok { OnOk result (self.new ≡ self.old ++ item.value ∷ []) }
         ensures err { OnErr result (self.new ≡ self.old) }
@@ -158,9 +157,9 @@ impl<T: Drop> SharedList<T> {
         Ok(())
     }
 
-    /// Removes the element with that index, which is below the length. It costs a walk over the chunks before it, and makes at most three
-    /// chunks anew, with their groups, or none where the chunk and its group have no other owner and no neighbour fits in one chunk with
-    /// it. AllocError where memory is refused; then the list is as it was.
+    /// Removes the element with that index, which must be below the length. It costs a walk over the chunks before it, and makes at most three
+    /// new chunks, with their groups. It makes none if the chunk and its group have no other owner and no neighbour fits in one chunk with it.
+    /// AllocError where memory is refused; then the list is unchanged.
     pub fn remove(&mut self, index: usize) -> Result<(), AllocError>
         requires { index < length self.old }
         ensures ok { OnOk result (self.new ≡ remove self.old index) }
@@ -172,8 +171,8 @@ impl<T: Drop> SharedList<T> {
         Ok(())
     }
 
-    /// Takes out the last element, and gives it, or None where there is none. It costs a walk over the groups, where the last chunk and
-    /// its group have no other owner; else these are made anew. AllocError where memory is refused; then the list is as it was.
+    /// Removes and answers the last element, or None where there is none. It costs a walk over the groups if the last chunk and its group have
+    /// no other owner; else new versions of these two are made. AllocError where memory is refused; then the list is unchanged.
     pub fn pop_shared(&mut self) -> Result<Option<Arc<T>>, AllocError>
         ensures ok { IfOk result (λ o. self.old ≡ self.new ++ option_to_list (option_map arc_value o)) }
         ensures none { IfOk result (λ o. (o ≡ None) ↔ (self.old ≡ [])) }
@@ -187,9 +186,9 @@ impl<T: Drop> SharedList<T> {
         Ok(Some(item))
     }
 
-    /// Puts an element that has other owners in the place of the one with that index, which is below the length. It costs a walk over
-    /// the chunks before it, and is done in place where the chunk and its group have no other owner; else these are made anew. AllocError
-    /// where memory is refused; then the list is as it was.
+    /// Replaces the element with that index, which must be below the length, by one that may have other owners. It costs a walk over the chunks
+    /// before it. It is done in place if the chunk and its group have no other owner; else new versions of these two are made. AllocError where
+    /// memory is refused; then the list is unchanged.
     pub fn set_shared(&mut self, index: usize, item: Arc<T>) -> Result<(), AllocError>
         requires { index < length self.old }
         ensures ok { OnOk result (self.new ≡ slice_set self.old index item.value) }
@@ -199,9 +198,8 @@ impl<T: Drop> SharedList<T> {
         set_item(&mut self.chunks, k, at, item)
     }
 
-    /// Keeps the elements before that index, which is at most the length, and gives the others. It costs a walk over the chunks before
-    /// it and over the groups, and makes at most two chunks anew, and some groups. AllocError where memory is refused; then the list is
-    /// as it was.
+    /// Keeps the elements before that index, which must be at most the length, and answers the others. It costs a walk over the chunks before it
+    /// and over the groups, and makes at most two new chunks, and some groups. AllocError where memory is refused; then the list is unchanged.
     pub fn split_off(&mut self, index: usize) -> Result<SharedList<T>, AllocError>
         requires { index ≤ length self.old }
         ensures ok { OnOk result (self.new ≡ take index self.old) }
@@ -217,9 +215,9 @@ impl<T: Drop> SharedList<T> {
         Ok(SharedList { chunks, len })
     }
 
-    /// Moves all elements of the other list to the end of this one, and leaves it empty. It costs the number of the groups of both, and
-    /// makes at most one chunk anew, and some groups. AllocError where memory is refused or the two have more elements together
-    /// than a usize counts; then both lists are as they were.
+    /// Moves all elements of the other list to the end of this one, and leaves it empty. It costs the number of the groups of both, and makes at
+    /// most one new chunk, and some groups. AllocError where memory is refused or the two have more elements together than a usize counts; then
+    /// both lists are unchanged.
     pub fn append(&mut self, other: &mut SharedList<T>) -> Result<(), AllocError>
         ensures ok { OnOk result (self.new ≡ self.old ++ other.old) }
         ensures emptied { OnOk result (other.new ≡ []) }

@@ -1,4 +1,4 @@
-//! Where elements stand among chunks.
+//! The places of elements in chunks.
 ghost use Rattle.std.specs.Prelude.{◌≡◌, ◌+◌, ◌-◌, ◌<◌, ℕ, [], None, Some, true, false, Bool, length, take, slice_get, IfSome};
 ghost use Rattle.std.specs.Fn.{ComputesKey};
 ghost use Rattle.std.specs.List.Sorted.{IsPartitionedBy, IsPartitionPoint};
@@ -9,14 +9,14 @@ ghost use Rattle.shared_list.specs.Places.{IsItem, ends, place_index};
 use crate::chunk::Chunk;
 use crate::spine::Spine;
 
-/// Where an element stands: the index of its chunk, and the element's index there.
+/// The place of an element: the index of its chunk, and the element's index in the chunk.
 #[derive(Clone, Copy)]
 pub struct Place {
     pub k: usize,
     pub at: usize,
 }
 
-/// Where the element with that index stands. It costs a walk over the chunks before it.
+/// The place of the element with that index. It costs a walk over the chunks before it.
 pub(crate) fn place_of<T: Drop>(chunks: &Spine<Chunk<T>>, index: usize) -> Place
     requires { index < length (flattened chunks.now) }
     ensures place { IsItem (λ v. v) chunks.now result.k result.at }
@@ -34,7 +34,7 @@ pub(crate) fn place_of<T: Drop>(chunks: &Spine<Chunk<T>>, index: usize) -> Place
     unreachable!()
 }
 
-/// Where the last element stands, or None where there is none. Constant time.
+/// The place of the last element, or None where there is none. Constant time.
 pub(crate) fn last_place<T: Drop>(chunks: &Spine<Chunk<T>>) -> Option<Place>
     ensures place { IfSome result (λ p. IsItem (λ v. v) chunks.now p.k p.at) }
     ensures last { IfSome result (λ p. length (flattened chunks.now) ≡ length (flattened (take p.k chunks.now)) + (p.at + 1)) }
@@ -52,7 +52,7 @@ pub(crate) fn last_item<T: Drop>(chunks: &Spine<Chunk<T>>) -> Option<&T>
     Some(chunks.last()?.last())
 }
 
-/// Where the first element stands that a test doesn't pass, where those that pass come first, or None where all pass. It costs the
+/// The place of the first element that doesn't pass a test, or None where all pass. The elements that pass must come first. It costs the
 /// logarithm of the number of elements, and a walk over the groups.
 pub fn partition_point<T: Drop, P: Fn(&T) -> bool>(
     chunks: &Spine<Chunk<T>>,
@@ -72,7 +72,7 @@ pub fn partition_point<T: Drop, P: Fn(&T) -> bool>(
     Some(Place { k, at })
 }
 
-/// The first element that a test doesn't pass, where those that pass come first, or None where all pass. It costs the logarithm of the
+/// The first element that doesn't pass a test, or None where all pass. The elements that pass must come first. It costs the logarithm of the
 /// number of elements.
 pub fn first<T: Drop, P: Fn(&T) -> bool>(chunks: &Spine<Chunk<T>>, test: P) -> Option<&T>
     requires { P.IsAlwaysCallable test }
@@ -95,7 +95,7 @@ pub fn item_at<T: Drop>(chunks: &Spine<Chunk<T>>, place: Place) -> &T
     chunks.at(place.k).get(place.at)
 }
 
-/// How many elements stand before a place of chunks that have so many. It costs a walk over the chunks before it.
+/// How many elements are before a place, in chunks that have `len` elements in all. It costs a walk over the chunks before it.
 pub(crate) fn index_of<T: Drop>(chunks: &Spine<Chunk<T>>, place: Place, len: usize) -> usize
     requires place { IsItem (λ v. v) chunks.now place.k place.at }
     requires len { len ≡ length (flattened chunks.now) }

@@ -1,4 +1,4 @@
-//! Elements in chunks which copies share: one level of what a list keeps.
+//! Elements in chunks that copies share: one level of a shared list.
 ghost use Rattle.std.specs.Prelude.{◌≡◌, ◌-◌, ◌<◌, ◌≤◌, ◌++◌, ◌∷◌, ℕ, List, Some, None, Bool, [], length, take, drop, insert, remove, slice_get, slice_set, IfSome, IfOk, OnOk, OnErr};
 ghost use Rattle.std.specs.Fn.{ComputesKey};
 ghost use Rattle.std.specs.Option.{option_copied};
@@ -21,8 +21,8 @@ use std::alloc::{AllocError, Global};
 use std::marker::Model;
 use std::sync::Arc;
 
-/// Owners of elements, in order, in chunks of 1 to 64 (profile), which copies share. Contracts see the list of the elements' values. It
-/// is what a list keeps its own chunks in. Where a cost is a walk, it is one over the chunks, a 64th of the elements.
+/// Owners of elements, in order, in chunks of 1 to 64 (profile), which copies share. Contracts see the list of the elements' values. A shared
+/// list keeps its own chunks in a spine. Where a cost is a walk, it is a walk over the chunks, about a 64th of the elements.
 #[derive(Drop)]
 pub struct Spine<T> {
     chunks: Vec<Arc<Chunk<T>>>,
@@ -41,7 +41,7 @@ impl<T> Model for Spine<T> {
 }
 
 impl<T: Drop> Spine<T> {
-    /// One without elements. It takes no memory, and keeps the allocator.
+    /// A spine without elements. It takes no memory, and keeps the allocator.
     pub fn new(alloc: Global) -> Spine<T>
         ensures { result ≡ [] }
     {
@@ -58,12 +58,12 @@ impl<T: Drop> Spine<T> {
         self.len
     }
 
-    /// The allocator that was given.
+    /// The allocator that it was made with.
     pub(crate) fn allocator(&self) -> Global {
         *self.chunks.allocator()
     }
 
-    /// The element with that index, which is below the length. It costs a walk, and constant time where there are at most 64.
+    /// The element with that index, which must be below the length. It costs a walk, or constant time where there is only one chunk.
     pub(crate) fn at(&self, index: usize) -> &T
         requires { index < length self.now }
         ensures { slice_get self.now index ≡ Some result.now }
@@ -83,7 +83,7 @@ impl<T: Drop> Spine<T> {
         Some(self.chunks[k].last())
     }
 
-    /// The first element that a test doesn't pass, where those that pass come first, or None where all pass. It costs the logarithm of the
+    /// The first element that doesn't pass a test, or None where all pass. The elements that pass must come first. It costs the logarithm of the
     /// number of elements.
     pub(crate) fn first<P: Fn(&T) -> bool>(&self, test: &P) -> Option<&T>
         requires { P.IsAlwaysCallable test.now }
@@ -93,7 +93,7 @@ impl<T: Drop> Spine<T> {
         Some(item_at(&self.chunks, place))
     }
 
-    /// The same element with its index, which costs a walk more.
+    /// The element that `first` answers, with its index. It costs a walk more than `first`.
     pub(crate) fn point<P: Fn(&T) -> bool>(&self, test: &P) -> Option<(usize, &T)>
         requires { P.IsAlwaysCallable test.now }
         ensures item { IfSome result (λ r. slice_get self.now r.0 ≡ Some r.1.now) }
@@ -112,7 +112,7 @@ impl<T: Drop> Spine<T> {
         SpineIter::new(&self.chunks)
     }
 
-    /// An equal one, by one more owner of each chunk. AllocError where memory is refused.
+    /// An equal spine, by one more owner of each chunk. AllocError where memory is refused.
     pub fn copy(&self) -> Result<Spine<T>, AllocError>
         ensures { IfOk result (λ s. s ≡ self.now) }
     {
@@ -122,8 +122,8 @@ impl<T: Drop> Spine<T> {
         Ok(Spine { chunks, len })
     }
 
-    /// Adds an element at the end. Constant time, where the last chunk has no other owner; else that is made anew. AllocError where
-    /// memory is refused or there are as many elements as a usize counts; then all is as it was.
+    /// Adds an element at the end. Constant time if the last chunk has no other owner; else a new chunk replaces it. AllocError where memory is
+    /// refused or there are as many elements as a usize counts; then the spine is unchanged.
     pub(crate) fn push_shared(&mut self, item: Arc<T>) -> Result<(), AllocError>
         ensures ok { OnOk result (self.new ≡ self.old ++ item.value ∷ []) }
         ensures err { OnErr result (self.new ≡ self.old) }
@@ -136,8 +136,8 @@ impl<T: Drop> Spine<T> {
         Ok(())
     }
 
-    /// Puts in an element, which gets that index, which is at most the length. It costs a walk, and at most two chunks anew. AllocError
-    /// where memory is refused or there are as many elements as a usize counts; then all is as it was.
+    /// Inserts an element at that index, which must be at most the length. It costs a walk, and makes at most two new chunks. AllocError where
+    /// memory is refused or there are as many elements as a usize counts; then the spine is unchanged.
     pub(crate) fn insert_shared(&mut self, index: usize, item: Arc<T>) -> Result<(), AllocError>
         requires { index ≤ length self.old }
         ensures ok { OnOk result (self.new ≡ insert self.old index item.value) }
@@ -155,8 +155,8 @@ impl<T: Drop> Spine<T> {
         Ok(())
     }
 
-    /// Puts an element in the place of the one with that index, which is below the length. It costs a walk, and at most one chunk anew.
-    /// AllocError where memory is refused; then all is as it was.
+    /// Replaces the element with that index, which must be below the length. It costs a walk, and makes at most one new chunk. AllocError where
+    /// memory is refused; then the spine is unchanged.
     pub(crate) fn set_shared(&mut self, index: usize, item: Arc<T>) -> Result<(), AllocError>
         requires { index < length self.old }
         ensures ok { OnOk result (self.new ≡ slice_set self.old index item.value) }
@@ -166,8 +166,8 @@ impl<T: Drop> Spine<T> {
         set_item(&mut self.chunks, k, at, item)
     }
 
-    /// Removes the element with that index, which is below the length. It costs a walk, and at most three chunks anew. AllocError where
-    /// memory is refused; then all is as it was.
+    /// Removes the element with that index, which must be below the length. It costs a walk, and makes at most three new chunks. AllocError
+    /// where memory is refused; then the spine is unchanged.
     pub(crate) fn remove(&mut self, index: usize) -> Result<(), AllocError>
         requires { index < length self.old }
         ensures ok { OnOk result (self.new ≡ remove self.old index) }
@@ -179,8 +179,8 @@ impl<T: Drop> Spine<T> {
         Ok(())
     }
 
-    /// Keeps the elements before that index, which is at most the length, and gives the others. It costs a walk, and at most two chunks
-    /// anew. AllocError where memory is refused; then all is as it was.
+    /// Keeps the elements before that index, which must be at most the length, and answers the others. It costs a walk, and makes at most two
+    /// new chunks. AllocError where memory is refused; then the spine is unchanged.
     pub(crate) fn split_off(&mut self, index: usize) -> Result<Spine<T>, AllocError>
         requires { index ≤ length self.old }
         ensures ok { OnOk result (self.new ≡ take index self.old) }
@@ -196,9 +196,8 @@ impl<T: Drop> Spine<T> {
         Ok(Spine { chunks, len })
     }
 
-    /// Moves all elements of the other to the end of this one, and leaves it empty. It costs a walk over the other's chunks, and at most
-    /// one chunk anew. AllocError where memory is refused or the two have more elements together than a usize counts; then both are as
-    /// they were.
+    /// Moves all elements of the other to the end of this one, and leaves it empty. It costs a walk over the other's chunks, and makes at most
+    /// one new chunk. AllocError where memory is refused or the two have more elements together than a usize counts; then both are unchanged.
     pub(crate) fn append(&mut self, other: &mut Spine<T>) -> Result<(), AllocError>
         ensures ok { OnOk result (self.new ≡ self.old ++ other.old) }
         ensures emptied { OnOk result (other.new ≡ []) }
@@ -216,8 +215,8 @@ impl<T: Drop> Spine<T> {
 }
 
 impl<T: Drop> Spine<Chunk<T>> {
-    /// Changes the chunk with index k, which is below the length. It costs a walk, and is done in place where neither that chunk nor the
-    /// one that has it here has another owner; else these are made anew. AllocError where memory is refused; then all is as it was.
+    /// Changes the chunk with index k, which must be below the length. It costs a walk. It is done in place if neither that chunk nor its group
+    /// has another owner; else new versions replace them. AllocError where memory is refused; then the spine is unchanged.
     pub(crate) fn change(&mut self, k: usize, change: Change<T>) -> Result<(), AllocError>
         requires k { k < length self.old }
         requires can { (v : List T) → slice_get self.old k ≡ Some v → CanChange v change }

@@ -1,5 +1,5 @@
 //! The reply to a request that only reads.
-ghost use Rattle.std.specs.Prelude.{◌≡◌, ◌<◌, ◌^◌, None, true, false};
+ghost use Rattle.std.specs.Prelude.{◌≡◌, ◌≤◌, ◌<◌, ◌^◌, None, true, false};
 ghost use Rattle.std.specs.FinSet as set;
 ghost use Rattle.model.specs.State.{State};
 ghost use Rattle.model.specs.Step.{Step};
@@ -46,7 +46,9 @@ pub fn answer(
     requires few { set.len (union_of (world_of table.now)) < 2 ^ 32 }
     ensures step { (s : State) → IsStateWith s table.now space → IsCountOf s counts → Step s request.now reply.new s }
     ensures nodes { reaches_nodes request.now ≡ false → meter.new ≡ meter.old }
+    ensures never_lower { meter.old ≤ meter.new }
     ensures segments { HasRead table.now request.now reply.new segments.old segments.new }
+    ensures segments_never_lower { segments.old ≤ segments.new }
 {
     match request {
         Request::Read {

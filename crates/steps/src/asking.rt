@@ -1,5 +1,5 @@
 //! The check of a request against the limits of a pool's file systems, before anything is changed.
-ghost use Rattle.std.specs.Prelude.{◌≡◌, ◌<◌, ◌^◌, [], ◌∷◌, ℕ, List, None, IsSome, IfOk, IfErr, OnOk};
+ghost use Rattle.std.specs.Prelude.{◌≡◌, ◌≤◌, ◌<◌, ◌^◌, [], ◌∷◌, ℕ, List, None, IsSome, IfOk, IfErr, OnOk};
 ghost use Rattle.std.specs.FinMap.{get};
 ghost use Rattle.base.specs.declared.refusal.Refusal.{Refusal};
 ghost use Rattle.base.specs.declared.name.target.Target.{Target};
@@ -56,6 +56,7 @@ pub fn ask_change(
     ensures ok { (s : State) → IsStateWith s table.now space → synced.0 ≡ s.last.group → OnOk result (MayChange s name.now (changes_of (update.now ∷ []))) }
     ensures foretold { (s : State) → IsStateWith s table.now space → synced.0 ≡ s.last.group → IfOk result (Foretells s name.now (changes_of (update.now ∷ []))) }
     ensures err { (s : State) → IsStateWith s table.now space → synced.0 ≡ s.last.group → IfErr result (IsNoChange s name.now (changes_of (update.now ∷ []))) }
+    ensures never_lower { meter.old ≤ meter.new }
 {
     let Some(ledger) = ledger else {
         return Ok(None);

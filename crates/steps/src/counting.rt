@@ -42,6 +42,7 @@ pub(crate) fn get(
     requires few { set.len (union_of (world_of table.now)) < 2 ^ 32 }
     ensures step { (s : State) → IsStateWith s table.now space → free ≡ free_of s → Step s (Request.Get target.now property) reply.new s }
     ensures segments { HasRead table.now (Request.Get target.now property) reply.new segments.old segments.new }
+    ensures never_lower { segments.old ≤ segments.new }
 {
     let room = room_asked(ledger, table, space, free, target, property);
     let value = value_named(
@@ -70,6 +71,7 @@ pub(crate) fn written_since(
 )
     ensures step { (s : State) → IsSteady s → datasets_of s ≡ table.now → Step s (Request.WrittenSince target.now since.now) reply.new s }
     ensures segments { HasRead table.now (Request.WrittenSince target.now since.now) reply.new segments.old segments.new }
+    ensures never_lower { segments.old ≤ segments.new }
 {
     let written = lookups::space::written_since(table, target, since.member(), segments);
     match written {
@@ -90,6 +92,7 @@ pub(crate) fn would_free(
     requires few { set.len (union_of (world_of table.now)) < 2 ^ 32 }
     ensures step { (s : State) → IsSteady s → datasets_of s ≡ table.now → Step s (Request.WouldFree name.now first.now last.now) reply.new s }
     ensures segments { HasRead table.now (Request.WouldFree name.now first.now last.now) reply.new segments.old segments.new }
+    ensures never_lower { segments.old ≤ segments.new }
 {
     let freed = lookups::space::would_free(table, name, first, last, segments);
     match freed {

@@ -1,5 +1,5 @@
 //! The check of a receive against the limits.
-ghost use Rattle.std.specs.Prelude.{◌≡◌, ◌⊎◌, Bool, true, None, IfErr, OnOk};
+ghost use Rattle.std.specs.Prelude.{◌≡◌, ◌≤◌, ◌⊎◌, Bool, true, None, IfErr, OnOk};
 ghost use Rattle.base.specs.declared.refusal.Refusal.{Refusal};
 ghost use Rattle.model.specs.Rule.{first_of};
 ghost use Rattle.model.specs.State.{State};
@@ -33,6 +33,7 @@ pub(crate) fn ask_limits(
     requires { (s : State) × (sent : Sending) × (force : Bool) × IsUnderWay s present name.now sent force edit.now updates.now }
     ensures ok { (s : State) (sent : Sending) (force : Bool) → IsUnderWay s present.entry name.now sent force edit.now updates.now → present.entry.is_limited ≡ true → OnOk result (first_of (limit_row (asked_by_receive s name.now sent force)) ≡ None) }
     ensures err { (s : State) (sent : Sending) (force : Bool) → IsUnderWay s present.entry name.now sent force edit.now updates.now → IfErr result (λ e. BreaksLimit s name.now sent force e ⊎ (e ≡ Refusal.NoMemory)) }
+    ensures never_lower { meter.old ≤ meter.new }
 {
     if !present.is_limited {
         return Ok(());

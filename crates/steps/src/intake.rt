@@ -1,5 +1,5 @@
 //! What a receive makes of a pool, before anything of the pool is changed (zfs-receive(8)): all that can fail is done here.
-ghost use Rattle.std.specs.Prelude.{IfOk, IfErr};
+ghost use Rattle.std.specs.Prelude.{◌≤◌, IfOk, IfErr};
 ghost use Rattle.stream.specs.Spelling.{IsStream};
 ghost use Rattle.model.specs.declared.request.Request.{Request};
 ghost use Rattle.model.specs.declared.reply.Reply.{Reply};
@@ -63,6 +63,8 @@ pub fn intake_of(
     requires { (s : State) × IsPresent s present }
     ensures ok { (s : State) → IsPresent s present.entry → IfOk result (IsIntakeOf s name.now bytes.now force) }
     ensures err { (s : State) → IsPresent s present.entry → IfErr result (λ e. Step s (Request.Receive name.now bytes.now force) (Reply.Refused e) s) }
+    ensures never_lower { meter.old ≤ meter.new }
+    ensures segments_never_lower { segments.old ≤ segments.new }
 {
     let stream = stream_in(alloc, bytes)?;
     let edit = begin(

@@ -1,5 +1,5 @@
 //! Datasets by their names: their contents, their names in a list, and their tags.
-ghost use Rattle.std.specs.Prelude.{◌≡◌};
+ghost use Rattle.std.specs.Prelude.{◌≡◌, ◌≤◌};
 ghost use Rattle.model.specs.State.{State};
 ghost use Rattle.model.specs.Step.{Step};
 ghost use Rattle.model.specs.declared.request.Request.{Request};
@@ -25,7 +25,8 @@ pub(crate) fn read(
     meter: &mut Meter,
     reply: &mut Reply,
 )
-    ensures { (s : State) → IsSteady s → datasets_of s ≡ table.now → Step s (Request.Read target.now object block) reply.new s }
+    ensures step { (s : State) → IsSteady s → datasets_of s ≡ table.now → Step s (Request.Read target.now object block) reply.new s }
+    ensures never_lower { meter.old ≤ meter.new }
 {
     let Some(tree) = tree_named(table, target) else {
         *reply = Reply::Refused(Refusal::NoDataset);

@@ -1,6 +1,6 @@
 //! Sends of snapshots.
 ghost use Rattle.std.specs.Option.{option_copied};
-ghost use Rattle.std.specs.Prelude.{◌≡◌};
+ghost use Rattle.std.specs.Prelude.{◌≡◌, ◌≤◌};
 ghost use Rattle.model.specs.declared.request.Request.{Request};
 ghost use Rattle.model.specs.State.{State};
 ghost use Rattle.model.specs.Step.{Step};
@@ -26,7 +26,8 @@ pub(crate) fn send(
     meter: &mut Meter,
     reply: &mut Reply,
 )
-    ensures { (s : State) → IsSteady s → datasets_of s ≡ table.now → Step s (Request.Send target.now (option_copied from.entry)) reply.new s }
+    ensures step { (s : State) → IsSteady s → datasets_of s ≡ table.now → Step s (Request.Send target.now (option_copied from.entry)) reply.new s }
+    ensures never_lower { meter.old ≤ meter.new }
 {
     let start = match start_of(table, target, from) {
         Ok(start) => start,

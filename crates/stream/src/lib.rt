@@ -1,4 +1,4 @@
-//! Send streams as bytes: what a stream says, its writer and its reader.
+//! Send streams as bytes: the contents of a stream, its writer and its reader.
 //!
 //! A stream is a header, records and an end, all numbers unsigned and big-endian (profile):
 //!

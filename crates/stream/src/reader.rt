@@ -22,16 +22,16 @@ use sha2::{Digest, Sha256};
 use std::alloc::Global;
 use std::io::{ErrorKind, Read};
 
-/// Why a part could not be read: the bytes are no stream, or there was no memory or the reader failed.
+/// Why a part could not be read. Bad: the bytes are not those of a stream. Failed: there was no memory, or the reader failed.
 #[derive(Drop)]
 enum Stop {
     Bad,
     Failed,
 }
 
-/// Reads a stream up to the reader's end. Bad comes as soon as the bytes so far are no beginning of a stream, so the reader
-/// may have more left. Each record takes memory, a write and a free the same. A read that was interrupted is tried again.
-/// The reader is asked for as little as one byte at a time.
+/// Reads a stream up to the reader's end. Bad comes as soon as the bytes read so far are not the beginning of a stream; then the reader may have
+/// more bytes left. Each record takes memory: a write and a free take the same room in the list, and a write takes 512 bytes more. An
+/// interrupted read is tried again. The reader is asked for as little as one byte at a time.
 pub fn read_stream<R: Read + Failing>(alloc: Global, reader: &mut R) -> Result<Stream, StreamFault>
     ensures rules { IfOk result KeepsRules }
     ensures ok { IfOk result (λ s. IfSome (R.remaining reader.old) (λ bytes. IsStream bytes s)) }
@@ -172,7 +172,7 @@ fn next_free<R: Read>(reader: &mut R, hasher: &mut Sha256, from: u32) -> Result<
     Ok(key)
 }
 
-/// Reads the digest, and sees that nothing stands after it.
+/// Reads the digest. Bad where it isn't the one given, or where bytes follow it.
 fn read_end<R: Read>(reader: &mut R, digest: &[u8; 32]) -> Result<(), Stop>
     ensures ok { OnOk result (Consumes (R.remaining reader.old) (R.remaining reader.new) digest.now) }
     ensures end { OnOk result (IsAtEnd (R.remaining reader.new)) }
@@ -192,7 +192,7 @@ fn read_end<R: Read>(reader: &mut R, digest: &[u8; 32]) -> Result<(), Stop>
     Ok(())
 }
 
-/// Reads this many bytes that the digest is taken of.
+/// Reads `N` bytes, and adds them to the digest. Bad where the reader ends before that.
 fn take<const N: usize, R: Read>(reader: &mut R, hasher: &mut Sha256) -> Result<[u8; N], Stop>
     ensures ok { IfOk result (λ bytes. Passes (R.remaining reader.old) (R.remaining reader.new) hasher.old hasher.new bytes) }
     ensures length { IfOk result (λ bytes. length bytes ≡ N) }
@@ -207,7 +207,7 @@ fn take<const N: usize, R: Read>(reader: &mut R, hasher: &mut Sha256) -> Result<
     Ok(bytes)
 }
 
-/// Adds bytes to what the digest is taken of.
+/// Adds bytes to the digest.
 fn digest_more(hasher: &mut Sha256, bytes: &[u8])
     ensures hashed { (m : List ℕ) → Holds256 hasher.old m → Holds256 hasher.new (m ++ bytes.now) }
     ensures bytes { All (λ b. b < 256) bytes.now }

@@ -11,9 +11,9 @@ pub(crate) const LEAVES: u32 = 1_048_576;
 /// One record of a stream.
 #[derive(Drop)]
 pub enum Record {
-    /// The block of a leaf, its bytes in memory of their own. Block `i` of object `o` is leaf `4096 * o + i`.
+    /// The block of a leaf, with its bytes in a box. Block `i` of object `o` is leaf `4096 * o + i`.
     Write { leaf: u32, bytes: Data },
-    /// Nothing is left of the leaves that this key covers.
+    /// The leaves that this key covers become holes.
     Free(Key),
 }
 
@@ -33,7 +33,7 @@ impl Record {
     }
 }
 
-/// Whether there is such a key.
+/// Whether this is a key of a dataset's tree.
 pub(crate) fn is_key(key: Key) -> bool
     ensures { IsTrue result ↔ IsKey key }
 {

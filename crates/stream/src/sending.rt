@@ -1,4 +1,4 @@
-//! What a stream says, and why one could not be written or read.
+//! The contents of a stream, and why a stream could not be written or read.
 ghost use Rattle.std.specs.Prelude.{◌≡◌};
 ghost use Rattle.base.specs.Failing.{HasRisen};
 
@@ -7,15 +7,15 @@ use base::number::Guid;
 use std::marker::Model;
 use thiserror::Error;
 
-/// A send stream: the guids of its two snapshots, and the records that lead from the one to the other (zfs-send(8)).
-/// A full stream has no source. Contracts see the two guids, the source's 0 where it has none, and the list of records.
+/// A send stream: the guids of its two snapshots, and the records that lead from the one to the other (zfs-send(8)). A full stream has no
+/// source. Contracts see the two guids, where the source's is 0 for a full stream, and the list of records.
 pub struct Stream {
     source: Guid,
     target: Guid,
     records: Vec<Record>,
 }
 
-// By hand, so that it is proved once: a derived one is laid out anew in each crate that drops the type.
+// Written by hand, so that it is proved once: a derived one is expanded anew in each crate that drops the type.
 impl Drop for Stream {
     fn drop(self) {
         let Stream {
@@ -38,7 +38,7 @@ impl Model for Stream {
 impl Stream {
     ghost use Rattle.stream.specs.Spelling.{Sending, source_guid, guid_number};
 
-    /// A stream of these records. Nothing is asked of them here: the reader takes no stream that breaks the rules.
+    /// A stream of these records. They are not checked here: the reader refuses a stream that breaks the rules.
     pub fn new(source: Option<Guid>, target: Guid, records: Vec<Record>) -> Stream
         ensures { result ≡ record { source = guid_number source; target = target.0; records = records.items } }
     {
@@ -49,7 +49,7 @@ impl Stream {
         }
     }
 
-    /// A stream by the numbers of its guids, the source's 0 for none.
+    /// A stream with guids of these numbers. A source of 0 stands for no source.
     pub(crate) fn of_guids(source: u64, target: u64, records: Vec<Record>) -> Stream
         ensures { result ≡ record { source = source; target = target; records = records.items } }
     {
@@ -60,7 +60,7 @@ impl Stream {
         }
     }
 
-    /// The guid of the snapshot that the records are applied to, none for a full stream.
+    /// The guid of the snapshot that the records are applied to, or None for a full stream.
     pub fn source(&self) -> Option<Guid>
         ensures { result ≡ source_guid self.now.source }
     {
@@ -96,7 +96,7 @@ impl Stream {
 /// Why a stream could not be written or read.
 #[derive(Clone, Copy, PartialEq, Eq, Debug, Error)]
 pub enum StreamFault {
-    /// The bytes are no stream.
+    /// The bytes are not those of a stream.
     #[error("no stream")]
     Bad,
     /// There was no memory.
@@ -107,7 +107,7 @@ pub enum StreamFault {
     Device,
 }
 
-/// What a call that could not go on reports: a device's fault where the count of failures rose in it.
+/// The fault of a call that could not go on: Device where the count of failures rose in it, and else NoMemory.
 pub(crate) fn fault_of(before: u64, after: u64) -> StreamFault
     ensures device { result ≡ StreamFault.Device → HasRisen before after }
     ensures memory { result ≡ StreamFault.NoMemory → ¬ HasRisen before after }

@@ -17,8 +17,8 @@ use std::io::Write;
 /// The text that a stream begins with.
 pub(crate) const MAGIC: [u8; 8] = *b"ZDSTRM01";
 
-/// Writes a stream, and does not flush the writer. It takes no memory of its own; NoMemory is a writer's want of memory.
-/// After a fault it is open how much was written.
+/// Writes a stream, and does not flush the writer. It takes no memory of its own. Device where the writer failed, NoMemory where the writer
+/// lacked memory. After a fault, any part of the stream may have been written.
 pub fn write_stream<W: Write + Failing>(stream: &Stream, writer: &mut W) -> Result<(), StreamFault>
     ensures ok { OnOk result (Appends (W.contents writer.old) (W.contents writer.new) (spell stream.now)) }
     ensures bad { ¬ IsErrOf result StreamFault.Bad }
@@ -80,7 +80,7 @@ fn put_record<W: Write>(writer: &mut W, hasher: &mut Sha256, item: &Record) -> i
     }
 }
 
-/// Writes bytes that the digest is taken of.
+/// Writes bytes, and adds them to the digest.
 fn put<W: Write>(writer: &mut W, hasher: &mut Sha256, bytes: &[u8]) -> io::Result<()>
     ensures { OnOk result (Puts (W.contents writer.old) (W.contents writer.new) hasher.old hasher.new bytes.now) }
 {

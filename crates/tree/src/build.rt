@@ -18,7 +18,7 @@ use node::{Inner, Leaf, Level, Pair, keep, no_kids, owner_at, owner_count, repla
 use std::alloc::Global;
 use std::sync::Arc;
 
-/// A part after a batch, whether it was touched, whether it stays, and how many of the new blocks are made.
+/// A part of a tree after a batch: whether it was touched, whether it stays, and how many of the new blocks have been made so far.
 #[derive(Drop)]
 pub struct Built<C> {
     pub part: Option<Arc<C>>,
@@ -27,7 +27,7 @@ pub struct Built<C> {
     pub next: usize,
 }
 
-/// The places of a part after a batch.
+/// The places of a node after a batch.
 #[derive(Drop)]
 struct BuiltKids<C> {
     kids: [Pair<C>; 8],
@@ -36,7 +36,7 @@ struct BuiltKids<C> {
     next: usize,
 }
 
-/// The number of the new block at a place, and the place after it.
+/// The number of the new block at index `at` of the list, and the next index.
 pub fn number_at(made: &[NewBlock], at: usize) -> (BlockNo, usize)
     requires { at < length made.now }
     ensures number { result.0 ≡ (slice_index_or made.now at no_block).block }
@@ -55,11 +55,11 @@ pub fn reach(meter: &mut Meter)
     meter.add_one();
 }
 
-/// A level whose parts can be made anew.
+/// A level whose nodes can be rebuilt.
 pub trait Build: Level + Drop {
-    /// The part with an index among those of its level after a batch. The numbers are those of the new blocks, which stand from
-    /// the last key to the first, and from one place on. The meter rises by at least one for each block whose key is touched, and
-    /// for each new one.
+    /// The part of a tree at and below one key, as it is after a batch. The key is given by its level, and by its index on that level. The new
+    /// blocks have the numbers of `made` from index `next` on; `made` is sorted from the last key to the first. The meter rises by at least one
+    /// for each block whose key is touched, and for each new one.
     fn build(
         alloc: Global,
         old: Option<&Arc<Self>>,
@@ -128,7 +128,7 @@ impl Build for Leaf {
     }
 }
 
-/// The part at a place below, as `build` has it. Where the batch does nothing to it, nothing below it is looked at.
+/// The part at a place below, as `build` makes it. Where the batch does nothing to it, no node of it is reached.
 fn build_kid<C: Build>(
     alloc: Global,
     old: Option<&Arc<C>>,
@@ -168,7 +168,8 @@ fn build_kid<C: Build>(
     C::build(alloc, old, level, index, updates, group, made, next, meter)
 }
 
-/// The places of a part after a batch, made from the last to the first. The places have a level, and the indices from one on.
+/// The places of a node as they are after a batch, made from the last place to the first. The nodes at the places have this level, and their
+/// indices begin at `first`.
 fn build_kids<C: Build>(
     alloc: Global,
     old: Option<&Arc<Inner<C>>>,
@@ -221,7 +222,7 @@ fn build_kids<C: Build>(
     })
 }
 
-/// The part that was absent and of which a batch writes one leaf: of its places one has a part, on the way to the leaf.
+/// A node that was absent, where a batch writes a single leaf below it. Only its place on the path to that leaf gets a node.
 fn grow<C: Build>(
     alloc: Global,
     old: Option<&Arc<Inner<C>>>,

@@ -1,9 +1,9 @@
-//! What a change of a tree has done to the numbers.
+//! The effect of a change of a tree on the numbers of blocks.
 use base::number::{BlockNo, Dead};
 use batch::NewBlock;
 
-/// What a change that is in force has done to the numbers: the blocks that it dropped without keeping their numbers in place, the
-/// numbers that its new blocks have beside those kept, and its new blocks in the order of their keys.
+/// The effect of an applied change on the numbers of blocks: the blocks that it dropped without keeping their numbers in place, the numbers that
+/// its new blocks have without those kept in place, and its new blocks in the order of their keys.
 #[derive(Drop)]
 pub struct Changed {
     pub released: Vec<Dead>,

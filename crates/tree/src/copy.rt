@@ -10,7 +10,7 @@ use node::{Inner, Level, Pair, no_kids, read_counts};
 use std::alloc::Global;
 use std::sync::Arc;
 
-/// Puts into a pair that has nothing one more owner of each part that another has. NoMemory where there is none for one.
+/// Makes an empty pair share the nodes of another, by one more owner of each. NoMemory where there is none for one.
 fn keep_pair<C: Level + Drop>(from: &Pair<C>, pair: &mut Pair<C>) -> Result<(), Refusal>
     requires left { left_of pair.old ≡ None }
     requires right { right_of pair.old ≡ None }
@@ -25,7 +25,7 @@ fn keep_pair<C: Level + Drop>(from: &Pair<C>, pair: &mut Pair<C>) -> Result<(), 
     Ok(())
 }
 
-/// Puts into eight pairs that have nothing one more owner of each part that others have. NoMemory where there is none for one.
+/// Makes eight empty pairs share the nodes of others, by one more owner of each. NoMemory where there is none for one.
 fn keep_below<C: Level + Drop>(from: &[Pair<C>; 8], kids: &mut [Pair<C>; 8]) -> Result<(), Refusal>
     requires empty { places_in kids.old ≡ replicate 16 None }
     ensures ok { OnOk result (forest_of (shared_part C.part) (places_in kids.new) ≡ forest_of (shared_part C.part) (places_in from.now)) }
@@ -38,7 +38,8 @@ fn keep_below<C: Level + Drop>(from: &[Pair<C>; 8], kids: &mut [Pair<C>; 8]) -> 
     Ok(())
 }
 
-/// Has an owner of a node own it alone, where it can: where there are others, it comes to own a copy. At `Err` it owns what it did.
+/// Makes `owner` the only owner of its node, where it can: if the node has other owners, `owner` gets a copy of it (copy on write). At `Err` it
+/// is unchanged.
 pub fn own<C: Level + Drop>(owner: &mut Arc<Inner<C>>, alloc: Global) -> Result<(), Refusal>
     ensures same { inner_part C.part owner.new.value ≡ inner_part C.part owner.old.value }
     ensures err { OnErr result (result ≡ Err Refusal.NoMemory) }

@@ -1,4 +1,4 @@
-//! Shared versions of a dataset's tree of blocks.
+//! Versions of a dataset's tree of blocks, which share nodes.
 #![tactic(auto)]
 
 mod block;

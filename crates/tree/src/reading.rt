@@ -22,11 +22,12 @@ use node::{Cell, Level, span};
 use std::alloc::Global;
 
 impl Tree {
-    /// What stands at a key, or none. It costs a step for each level from the root down.
+    /// The cell at a key, or None where there is none. It costs a step for each level from the root down.
     pub fn read(&self, key: Key, meter: &mut Meter) -> Option<Cell<'_>>
         ensures cell { option_map cell_of result ≡ get self.now key }
         ensures bytes { IfSome result (λ c. key.level ≡ 0 → IsSome c.bytes) }
         ensures metered { meter.new ≡ counted meter.old (present_on_path self.now key) }
+        ensures never_lower { meter.old ≤ meter.new }
     {
         let _reached = meter.count();
         let Some(root) = &self.root else {
@@ -43,7 +44,7 @@ impl Tree {
         }
     }
 
-    /// How many blocks the tree has, no two of one number. Constant time.
+    /// How many blocks the tree has. No two of them have the same number. Constant time.
     pub fn node_count(&self) -> u32
         ensures count { result ≡ len self.now }
         ensures unique { IsUnique self.now }
@@ -51,8 +52,8 @@ impl Tree {
         self.count
     }
 
-    /// The blocks born after a group, each before those below it (On-Disk Specification, chapter 2). Parts that are no younger
-    /// are not walked. NoMemory where there is none for the list. It costs the nodes that are walked, which the meter counts: it
+    /// The blocks born after a group, each before those below it (On-Disk Specification, chapter 2). Nothing is visited below a block that
+    /// wasn't born after the group. NoMemory where there is none for the list. It costs the nodes that are visited, which the meter counts: it
     /// rises by at least one for each block of the list, and at `Err` is never lower.
     pub fn walk_after(
         &self,
@@ -73,8 +74,8 @@ impl Tree {
         Ok(out)
     }
 
-    /// What a batch of changes would drop and make, in any group and with any numbers: nothing is chosen, and nothing changes. NoMemory where
-    /// there is none for the lists. It costs the nodes on the way to the changes, each with its sixteen places. The meter counts these nodes:
+    /// What a batch of changes would drop and make, whatever the group and the numbers. No number is chosen, and nothing changes. NoMemory where
+    /// there is none for the lists. It costs the nodes on the paths to the changes, each with its sixteen places. The meter counts these nodes:
     /// it rises by at least one for each block that the change would drop, and at `Err` is never lower.
     pub fn forecast(
         &self,

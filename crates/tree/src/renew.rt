@@ -1,4 +1,4 @@
-//! The nodes that a batch of changes makes, with those that nobody else has changed where they are.
+//! The nodes that a batch of changes makes. Nodes that have no other owner are changed in place.
 ghost use Rattle.std.specs.Prelude.{◌≡◌, suc, ◌+◌, ◌-◌, ◌*◌, ◌^◌, ◌<◌, ◌≤◌, ◌/◌, ◌%◌, ◌⊎◌, IsTrue, IfOk, IfSome, IfNone, OnOk, OnErr, Some, None, true, length, map, slice_index_or, slice_set};
 ghost use Rattle.std.specs.Option.{OnSome};
 ghost use Rattle.base.specs.declared.refusal.Refusal.{Refusal};
@@ -22,12 +22,13 @@ use node::{Inner, Leaf, Level, Pair, Root, kid_at, owner_in, replace_kid};
 use std::alloc::Global;
 use std::sync::Arc;
 
-/// A level whose parts can be changed where they are.
+/// A level whose nodes can be changed in place.
 pub trait Renew: Build {
-    /// Changes a part with an index among those of its level where it is, as a batch that touches it has it, and answers the place
-    /// after the numbers used, as `build` does, with the same nodes counted. Where the batch writes or punches one leaf, a node that
-    /// stays is changed where it is, however old, if it has no other owner, and else a copy of it comes to its owner and is changed.
-    /// None where the part is to be made anew, or goes: it is as it was. So it is at `Err`.
+    /// Applies a batch in place to the part of a tree at and below one key, which the batch touches. The key is given by its level, and by its
+    /// index on that level. It answers the index in `made` after the numbers that it has used, and counts the same nodes as `build`. Where the
+    /// batch writes or punches a single leaf, a node that stays is changed in place, however old it is, if it has no other owner; else `owner`
+    /// gets a copy of the node, and the copy is changed. None where the part must be rebuilt, or goes. At None and at `Err` the part is
+    /// unchanged.
     fn renew(
         owner: &mut Arc<Self>,
         alloc: Global,
@@ -83,7 +84,8 @@ impl Renew for Leaf {
     }
 }
 
-/// Whether a node keeps a part whatever becomes of a punched leaf on this way.
+/// Whether a node is sure to stay after a batch that changes a single leaf below it: the batch writes the leaf, or there is a node at another
+/// place than that on the path to the leaf.
 fn surely_stays<C: Level>(node: &Inner<C>, way: Way) -> bool
     ensures { IsTrue result → IsTrue way.writes ⊎ HasOther way.place (places_in node.now.kids) }
 {
@@ -98,8 +100,8 @@ fn surely_stays<C: Level>(node: &Inner<C>, way: Way) -> bool
     false
 }
 
-/// Changes what stands at a place of a pair where it is, as `renew` does: at the left place for an even number. None, with the pair as it
-/// was, where nothing stands there.
+/// Changes the node at a place of a pair in place, as `renew` does: the left one where `place` is even, and else the right one. None, with the
+/// pair unchanged, where there is no node.
 fn renew_side<C: Renew>(
     pair: &mut Pair<C>,
     place: usize,
@@ -161,7 +163,7 @@ fn renew_side<C: Renew>(
     }
 }
 
-/// Puts at a place the part after a batch that touches it: changed where it is, where it can be, and else made anew.
+/// Applies a batch to the part at a place, which the batch touches. The part is changed in place where it can be, and else rebuilt.
 fn renew_kid<C: Renew>(
     kids: &mut [Pair<C>; 8],
     place: usize,
@@ -205,7 +207,7 @@ fn renew_kid<C: Renew>(
     Ok(built.next)
 }
 
-/// Changes a node where it is that stays, and of which one place is on the way to the one leaf that a batch speaks of.
+/// Changes in place a node that stays. The batch writes or punches a single leaf, and one place of the node is on the path to it.
 fn renew_node<C: Renew>(
     node: &mut Inner<C>,
     way: Way,
@@ -282,8 +284,8 @@ impl<C: Renew> Renew for Inner<C> {
     }
 }
 
-/// Puts the tree after a batch into a root's place. At `Err` it has the tree that it had. The meter rises by at least one for each block
-/// whose key is touched, and for each new one.
+/// Replaces a root by that of the tree after a batch. At `Err` the tree is unchanged. The meter rises by at least one for each block whose key
+/// is touched, and for each new one.
 pub fn renew_root(
     root: &mut Option<Arc<Root>>,
     alloc: Global,

@@ -5,9 +5,9 @@ use crate::tree::Tree;
 use node::{owner_in, same_kid};
 
 impl Tree {
-    /// Whether the other tree has the same map: the same keys, with the same numbers, births and bytes. It costs the nodes that
-    /// both have up to the first difference. Nodes that both trees share are compared like others: nothing that a contract could
-    /// name tells one owner's node from another's. It is for tests.
+    /// Whether the other tree has the same map: the same keys, with the same numbers, births and bytes. It costs the nodes of both trees up to
+    /// the first difference. Nodes that the trees share are compared like all others, since contracts can't tell whether two owners share a
+    /// node. It is for tests.
     pub fn same(&self, other: &Tree) -> bool
         ensures { IsTrue result ↔ (self.now ≡ other.now) }
     {
@@ -15,7 +15,7 @@ impl Tree {
     }
 }
 
-/// By `same`.
+/// Compares as `same` does.
 impl PartialEq for Tree {
     ghost use Rattle.std.specs.Cmp.{partial_equiv_from_equiv};
     ghost use Rattle.tree.specs.Same.{same_maps, same_maps_laws};

@@ -16,6 +16,7 @@ ghost use Rattle.node.specs.Kid.{IsSound};
 ghost use Rattle.node.specs.Node.{leaf_part, inner_part, part_of_slot};
 ghost use Rattle.node.specs.Cells.{dead_of};
 
+use crate::build::reach;
 use crate::tree::Tree;
 use base::meter::Meter;
 use base::number::{Dead, Group, Key};
@@ -35,14 +36,14 @@ pub(crate) enum Node {
     Root(Arc<Root>),
 }
 
-/// A part of a tree: what stands at and below one key, by one more owner of it. Contracts see the key and the map of the keys at
-/// and below it.
+/// A part of a tree: the blocks at and below one key. It is one more owner of the node at that key. Contracts see the key, and the map of the
+/// keys at and below it.
 pub struct Subtree {
     key: Key,
     node: Node,
 }
 
-// By hand, so that it is proved once: a derived one is laid out anew in each crate that drops the type.
+// Written by hand, so that it is proved once: a derived one is expanded anew in each crate that drops the type.
 impl Drop for Subtree {
     fn drop(self) {
         let Subtree { key: _, node } = self;
@@ -67,7 +68,7 @@ impl Model for Subtree {
 
 /// A level whose nodes can be the top of a subtree.
 trait Top: Level + Drop {
-    /// The node of that level.
+    /// This node as a node of any level.
     fn node(top: Arc<Self>) -> Node
         ensures same { node_part result ≡ Self.part top.value }
         ensures level { node_level result ≡ Self.height };
@@ -118,7 +119,7 @@ impl Top for Inner<Inner<Inner<Inner<Leaf>>>> {
     }
 }
 
-/// The subtree of what stands at a place directly below a key.
+/// The subtree whose top is this node, at a place directly below a key; None where there is no node.
 fn kid_of<C: Top>(kid: Option<Arc<C>>, key: Key, place: u32) -> Option<Subtree>
     requires key { IsKey key }
     requires level { key.level ≡ suc C.height }
@@ -138,7 +139,7 @@ fn kid_of<C: Top>(kid: Option<Arc<C>>, key: Key, place: u32) -> Option<Subtree>
     }
 }
 
-/// The subtree at a place directly below a node, by one more owner of its top.
+/// The subtree at a place directly below a node, by one more owner of its top; None where the place is empty.
 fn child_at<C: Top>(node: &Inner<C>, key: Key, place: u32) -> Result<Option<Subtree>, Refusal>
     requires key { IsKey key }
     requires level { key.level ≡ suc C.height }
@@ -150,7 +151,7 @@ fn child_at<C: Top>(node: &Inner<C>, key: Key, place: u32) -> Result<Option<Subt
     Ok(kid_of(keep(node.owner(place as usize))?, key, place))
 }
 
-/// Puts a subtree onto others, if there is one.
+/// Pushes a subtree, if there is one, onto the stack `tops`.
 fn push_top(top: Option<Subtree>, tops: &mut Vec<Subtree>) -> Result<(), Refusal>
     ensures ok { OnOk result (reverse tops.new.items ≡ cons_option top (reverse tops.old.items)) }
     ensures err { OnErr result (result ≡ Err Refusal.NoMemory) }
@@ -161,7 +162,7 @@ fn push_top(top: Option<Subtree>, tops: &mut Vec<Subtree>) -> Result<(), Refusal
     Ok(())
 }
 
-/// Puts the subtrees directly below a node onto others, the last place first, by one more owner of each.
+/// Pushes the subtrees directly below a node onto the stack `tops`, the last place first, by one more owner of each.
 #[inline(never)]
 fn push_below<C: Top>(node: &Inner<C>, key: Key, tops: &mut Vec<Subtree>) -> Result<(), Refusal>
     requires key { IsKey key }
@@ -193,7 +194,7 @@ impl Node {
         }
     }
 
-    /// The same node, by one more owner.
+    /// One more owner of the same node.
     fn copy(&self) -> Result<Node, Refusal>
         ensures part { IfOk result (λ n. node_part n ≡ node_part self.now) }
         ensures level { IfOk result (λ n. node_level n ≡ node_level self.now) }
@@ -211,7 +212,7 @@ impl Node {
 }
 
 impl Tree {
-    /// All of the tree, by one more owner of its root, or None where it has no block. NoMemory where there is none for that.
+    /// The whole tree as a subtree, by one more owner of its root, or None where it has no block. NoMemory where there is none for that.
     pub fn top(&self) -> Result<Option<Subtree>, Refusal>
         ensures key { IfOk result (λ top. IfSome top (λ s. s.key ≡ record { level = 5; index = 0 })) }
         ensures map { IfOk result (λ top. IfSome top (λ s. s.map ≡ self.now)) }
@@ -231,7 +232,7 @@ impl Tree {
 }
 
 impl Subtree {
-    /// The same subtree again, by one more owner of its top: no block is visited. NoMemory where there is none for that.
+    /// An equal subtree, by one more owner of its top. No block is visited. NoMemory where there is none for that.
     pub fn copy(&self) -> Result<Subtree, Refusal>
         ensures ok { IfOk result (λ s. s ≡ self.now) }
         ensures err { OnErr result (result ≡ Err Refusal.NoMemory) }
@@ -241,7 +242,7 @@ impl Subtree {
         Ok(Subtree { key, node })
     }
 
-    /// The block of its top. No block below is younger (On-Disk Specification, chapter 2), and each is one of a subtree directly
+    /// The block of its top. No block below is younger (On-Disk Specification, chapter 2). Each block below is in one of the subtrees directly
     /// below. It costs one node.
     pub fn block(&self, meter: &mut Meter) -> Dead
         ensures block { option_map block_of (get self.now.map self.now.key) ≡ Some (dead_block result) }
@@ -249,18 +250,22 @@ impl Subtree {
         ensures keys { AreOwnOrBelow self.now }
         ensures all { branch_blocks self.now ≡ dead_block result ∷ flat_map branch_blocks (branches_below self.now) }
         ensures metered { meter.new ≡ counted meter.old 1 }
+        ensures never_lower { meter.old ≤ meter.new }
     {
         meter.add_one();
         self.node.block()
     }
 
-    /// The subtree at a place directly below, by one more owner of its top, if anything stands there: no block is visited. NoMemory
-    /// where there is none for that.
-    pub fn child(&self, place: u32) -> Result<Option<Subtree>, Refusal>
+    /// The subtree at a place directly below, by one more owner of its top, or None where the place is empty. It costs one node, the top of this
+    /// subtree. NoMemory where there is none for the owner.
+    pub fn child(&self, place: u32, meter: &mut Meter) -> Result<Option<Subtree>, Refusal>
         requires { place < 16 }
         ensures ok { IfOk result (λ child. child ≡ child_of self.now place) }
+        ensures metered { meter.new ≡ counted meter.old 1 }
+        ensures never_lower { meter.old ≤ meter.new }
         ensures err { OnErr result (result ≡ Err Refusal.NoMemory) }
     {
+        reach(meter);
         match &self.node {
             Node::Leaf(_) => Ok(None),
             Node::First(node) => child_at(node, self.key, place),
@@ -271,7 +276,7 @@ impl Subtree {
         }
     }
 
-    /// Puts the subtrees directly below onto others, the last place first, by one more owner of each.
+    /// Pushes the subtrees directly below onto the stack `tops`, the last place first, by one more owner of each.
     fn push_below(&self, tops: &mut Vec<Subtree>) -> Result<(), Refusal>
         ensures ok { OnOk result (reverse tops.new.items ≡ branches_below self.now ++ reverse tops.old.items) }
         ensures err { OnErr result (result ≡ Err Refusal.NoMemory) }
@@ -286,11 +291,11 @@ impl Subtree {
         }
     }
 
-    /// Takes the top off, if it was born after a group: its block comes back, and the subtrees directly below go onto others, the last
-    /// place first, so that the first place is the next to be popped. None where the top is no younger, and then nothing below it
-    /// is, and the others are as they were. Each of those below gets one more owner before the top goes. NoMemory where one was
-    /// refused, or there is none for the others to grow: then some of those below may have come onto the others, so that these are
-    /// to be discarded. It costs one node, with its sixteen places.
+    /// Removes the top, if it was born after group `cut`: answers its block, and pushes the subtrees directly below onto the stack `tops`, the
+    /// last place first, so that the first place is popped next. None where the top wasn't born after the group; then no block below it was, and
+    /// `tops` is unchanged. Each subtree below gets one more owner before the top is dropped. NoMemory where an owner was refused, or where
+    /// there is none for `tops` to grow. Then some of the subtrees below may have been pushed: discard `tops`. It costs one node, with its
+    /// sixteen places.
     pub fn peel(
         self,
         cut: Group,
@@ -305,6 +310,7 @@ impl Subtree {
         ensures old { IfOk result (λ peeled. IfNone peeled ((k : Key) → IfSome (get self.map k) (λ c. c.birth ≤ cut.0))) }
         ensures kept { IfOk result (λ peeled. IfNone peeled (tops.new.items ≡ tops.old.items)) }
         ensures metered { meter.new ≡ counted meter.old 1 }
+        ensures never_lower { meter.old ≤ meter.new }
         ensures err { OnErr result (result ≡ Err Refusal.NoMemory) }
     {
         let block = self.block(meter);
@@ -320,6 +326,7 @@ impl Subtree {
         ensures leaf { self.now.key.level ≡ 0 → option_copied result ≡ option_map (λ c. c.bytes) (get self.now.map self.now.key) }
         ensures inner { 0 < self.now.key.level → result ≡ None }
         ensures metered { meter.new ≡ counted meter.old 1 }
+        ensures never_lower { meter.old ≤ meter.new }
     {
         meter.add_one();
         match &self.node {

@@ -1,7 +1,7 @@
 //! The blocks of a tree, as they are written.
-ghost use Rattle.std.specs.Prelude.{◌≡◌, ℕ, ◌<◌, ◌≤◌, ◌-◌, ◌/◌, ◌^◌, IfSome, Some, None, length, map, slice_index_or};
+ghost use Rattle.std.specs.Prelude.{◌≡◌, ℕ, ◌<◌, ◌≤◌, ◌-◌, ◌/◌, ◌^◌, IfSome, IfNone, Some, None, length, map, slice_index_or};
 ghost use Rattle.std.specs.FinMap.{get};
-ghost use Rattle.std.specs.Option.{option_map};
+ghost use Rattle.std.specs.Option.{OnSome, option_map};
 ghost use Rattle.base.specs.Counting.{counted};
 ghost use Rattle.base.specs.Map.{block_of};
 ghost use Rattle.node.specs.Kid.{places};
@@ -12,12 +12,13 @@ ghost use Rattle.tree.specs.Reading.{key_over, present_on_path};
 ghost use Rattle.tree.specs.Telling.{part_block, part_bytes, part_below};
 
 use crate::block::{Block, Root};
+use crate::build::reach;
 use crate::tree::Tree;
 use base::meter::Meter;
 use base::number::{Dead, Key};
 use node::{Inner, Leaf, Level, span, step};
 
-/// The root of a tree whose topmost block this is.
+/// The pointer to this block.
 fn root_at(dead: Dead) -> Root
     ensures { result ≡ record { block = dead.block; birth = dead.birth } }
 {
@@ -27,7 +28,7 @@ fn root_at(dead: Dead) -> Root
     }
 }
 
-/// Where the blocks directly below a node are.
+/// The pointers to the blocks directly below a node.
 fn roots_below<C: Level>(node: &Inner<C>) -> [Option<Root>; 16]
     ensures told { map maybe_block result ≡ map (option_map part_block) (places (inner_part C.part node.now).below) }
     ensures sixteen { length result ≡ 16 }
@@ -41,9 +42,10 @@ fn roots_below<C: Level>(node: &Inner<C>) -> [Option<Root>; 16]
     roots
 }
 
-/// A level whose nodes tell their blocks.
+/// A level whose nodes give their blocks in the form in which they are written.
 trait Tell: Level {
-    /// The block so many levels below a node of a level, at the index `at` of the keys that the node covers there.
+    /// The block `depth` levels below this node, at index `at` among the keys that the node covers on that level, or None where there is none.
+    /// `level` is the node's own level.
     fn tell(&self, level: u8, depth: u32, at: u32, meter: &mut Meter) -> Option<Block<'_>>
         requires level { level ≡ Self.height }
         requires low { level ≤ 5 }
@@ -51,10 +53,11 @@ trait Tell: Level {
         requires covered { at < 16 ^ depth }
         ensures told { option_map made_bytes result ≡ option_map (part_bytes (level - depth)) (part_below depth (Self.part self.now) at) }
         ensures of_tree { IfSome result IsOfTree }
-        ensures metered { meter.new ≡ counted meter.old (steps_below depth (Self.part self.now) at) };
+        ensures metered { meter.new ≡ counted meter.old (steps_below depth (Self.part self.now) at) }
+        ensures never_lower { meter.old ≤ meter.new };
 
-    /// Puts where the blocks are on the way to a leaf, each at its level, from a node of a level down, with the index of the leaf among
-    /// those that the node covers. The places of these levels are empty before.
+    /// Sets `path` to the pointers to the blocks on the path to a leaf, indexed by level, from this node down. `level` is the node's own level,
+    /// and `at` is the leaf's index among those that the node covers. Before, `path` must be None at these levels.
     fn trace(&self, level: u8, at: u32, path: &mut [Option<Root>; 6], meter: &mut Meter)
         requires level { level ≡ Self.height }
         requires low { level ≤ 5 }
@@ -62,7 +65,8 @@ trait Tell: Level {
         requires empty { (l : ℕ) → l ≤ level → slice_index_or path.old l None ≡ None }
         ensures traced { (l : ℕ) → l ≤ level → maybe_block (slice_index_or path.new l None) ≡ option_map block_of (cell_below (level - l) (Self.part self.now) (at / 16 ^ l)) }
         ensures above { (l : ℕ) → level < l → slice_index_or path.new l None ≡ slice_index_or path.old l None }
-        ensures metered { meter.new ≡ counted meter.old (steps_below level (Self.part self.now) at) };
+        ensures metered { meter.new ≡ counted meter.old (steps_below level (Self.part self.now) at) }
+        ensures never_lower { meter.old ≤ meter.new };
 }
 
 impl Tell for Leaf {
@@ -106,13 +110,19 @@ impl<C: Tell> Tell for Inner<C> {
 }
 
 impl Tree {
-    /// Where the root is, or None where the tree has no block. Constant time.
-    pub fn root(&self) -> Option<Root>
+    /// The pointer to the topmost block, or None where the tree has no block. It costs one node, where there is one.
+    pub fn root(&self, meter: &mut Meter) -> Option<Root>
         ensures root { maybe_block result ≡ root_of self.now }
         ensures rising { AreBirthsRising self.now }
+        ensures metered { OnSome result (meter.new ≡ counted meter.old 1) }
+        ensures unmetered { IfNone result (meter.new ≡ meter.old) }
+        ensures never_lower { meter.old ≤ meter.new }
     {
         match &self.root {
-            Some(root) => Some(root_at(root.block())),
+            Some(root) => {
+                reach(meter);
+                Some(root_at(root.block()))
+            }
             None => None,
         }
     }
@@ -122,6 +132,7 @@ impl Tree {
         ensures told { option_map made_bytes result ≡ option_map (bytes_of self.now key) (get self.now key) }
         ensures of_tree { IfSome result IsOfTree }
         ensures metered { meter.new ≡ counted meter.old (present_on_path self.now key) }
+        ensures never_lower { meter.old ≤ meter.new }
     {
         let _reached = meter.count();
         let Some(root) = &self.root else {
@@ -138,12 +149,13 @@ impl Tree {
         }
     }
 
-    /// Where the blocks are on the path to a leaf, each at its level, from the leaf at 0 to the root at 5. It costs a step for each
-    /// level from the root down.
+    /// The pointers to the blocks on the path to a leaf, indexed by level, from the leaf at 0 to the root at 5; None at a level without a block.
+    /// It costs a step for each level from the root down.
     pub fn path(&self, leaf: u32, meter: &mut Meter) -> [Option<Root>; 6]
         requires { leaf < 1048576 }
         ensures path { (l : ℕ) → l ≤ 5 → maybe_block (slice_index_or result l None) ≡ option_map block_of (get self.now (key_over leaf l)) }
         ensures metered { meter.new ≡ counted meter.old (present_on_path self.now (key_over leaf 0)) }
+        ensures never_lower { meter.old ≤ meter.new }
     {
         let _reached = meter.count();
         let mut path = [None; 6];

@@ -29,7 +29,7 @@ pub struct Tree {
     pub(crate) count: u32,
 }
 
-// By hand, so that it is proved once: a derived one is laid out anew in each crate that drops the type.
+// Written by hand, so that it is proved once: a derived one is expanded anew in each crate that drops the type.
 impl Drop for Tree {
     fn drop(self) {
         let Tree { root, count: _ } = self;
@@ -54,7 +54,7 @@ impl Model for Tree {
     ghost invariant = { λ t. IsSoundTree t.root t.count };
 }
 
-/// Takes each number in turn, and each is Free when its turn comes. It takes no memory, and costs the numbers.
+/// Takes each number in turn. Each must be Free when its turn comes. It takes no memory, and costs how many numbers there are.
 pub fn take_all(allocator: &mut Allocator, numbers: &[BlockNo])
     requires { AllFree allocator.old (map (λ b. b.0) numbers.now) }
     ensures { allocator.new ≡ takes allocator.old (map (λ b. b.0) numbers.now) }
@@ -75,7 +75,7 @@ impl Tree {
         }
     }
 
-    /// The same tree again, by one more owner of its root: no block is visited. NoMemory where there is none for that.
+    /// An equal tree, by one more owner of its root. No block is visited. NoMemory where there is none for that.
     pub fn copy(&self) -> Result<Tree, Refusal>
         ensures ok { IfOk result (λ t. t ≡ self.now) }
         ensures err { OnErr result (result ≡ Err Refusal.NoMemory) }
@@ -87,10 +87,10 @@ impl Tree {
         })
     }
 
-    /// What a batch of changes is to make and what it lets go, before any node of it is made, with the blocks young that were born
-    /// from `young` on: `put` puts it in force. NoSpace where the numbers are fewer than the new blocks, NoMemory where there is no
-    /// memory. It costs the nodes on the way to the changes, each with its sixteen places. The meter counts these nodes: it rises by
-    /// at least one for each block that the change drops, and at `Err` is never lower.
+    /// The draft of a batch of changes: what it will make and what it will release. No node is made yet: `put` applies the draft. Blocks born
+    /// from group `young` on are young: their numbers may be used for new blocks. NoSpace where there are too few numbers for the new blocks,
+    /// NoMemory where there is no memory. It costs the nodes on the paths to the changes, each with its sixteen places. The meter counts these
+    /// nodes: it rises by at least one for each block that the change drops, and at `Err` is never lower.
     pub fn draft(
         &self,
         alloc: Global,
@@ -115,14 +115,13 @@ impl Tree {
         )
     }
 
-    /// Puts a draft of a batch of changes in force: new blocks for the changed leaves and all their ancestors that stay, born in
-    /// `group` (On-Disk Specification, chapter 3). A block that was there and was born from the draft's `young` on keeps its number,
-    /// and the others have those of young blocks that go, and then Free ones. It takes no number: the answer names those that the new
-    /// blocks have. NoMemory where there is none for the nodes, and then the tree is as it was. It costs the nodes on the way to the
-    /// changes, each with its sixteen places. A batch that is one write or one punch of a leaf changes those nodes where they are
-    /// that no other version of the tree shares. The meter counts these nodes, those that were there and the new ones, where both stand
-    /// at one key once: it rises by at least one for each block that the change drops, and for each that it makes, and at `Err` is never
-    /// lower.
+    /// Applies a draft of a batch of changes: makes new blocks, born in `group`, for the changed leaves and for all their ancestors that stay
+    /// (On-Disk Specification, chapter 3). A key whose block was born from the draft's `young` on keeps that block's number. The other new
+    /// blocks have the numbers of young blocks that are released, and then Free ones. It takes no number in an allocator: the answer lists the
+    /// numbers to take. NoMemory where there is none for the nodes, and then the tree is unchanged. It costs the nodes on the paths to the
+    /// changes, each with its sixteen places. A batch that is one write or one punch of a leaf changes in place the nodes that no other version
+    /// of the tree shares. The meter counts the nodes that were there and the new ones; a key that has both is counted once. The meter rises by
+    /// at least one for each block that the change drops, and for each that it makes; at `Err` it is never lower.
     pub fn put(
         &mut self,
         alloc: Global,

@@ -1,5 +1,5 @@
 //! How many numbers a batch needs.
-ghost use Rattle.std.specs.Prelude.{◌<◌, ◌≤◌};
+ghost use Rattle.std.specs.Prelude.{◌≤◌, ◌<◌};
 
 use crate::rig::{Applied, Rig, add, punch_at, rig_of, write_at};
 use base::number::{BlockNo, Group};

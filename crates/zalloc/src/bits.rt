@@ -10,7 +10,7 @@ pub fn has(word: u64, bit: u32) -> bool
     (word >> bit) & 1 == 1
 }
 
-/// The word with a bit.
+/// The word with this bit set.
 pub fn with(word: u64, bit: u32) -> u64
     requires { bit < 64 }
     ensures same { is_one result bit ≡ true }
@@ -19,7 +19,7 @@ pub fn with(word: u64, bit: u32) -> u64
     word | (1 << bit)
 }
 
-/// The word without a bit.
+/// The word with this bit cleared.
 pub fn without(word: u64, bit: u32) -> u64
     requires { bit < 64 }
     ensures same { is_one result bit ≡ false }
@@ -28,7 +28,7 @@ pub fn without(word: u64, bit: u32) -> u64
     word & !(1 << bit)
 }
 
-/// The word with this bit.
+/// The word with this bit set to `one`.
 pub fn put(word: u64, bit: u32, one: bool) -> u64
     requires { bit < 64 }
     ensures same { is_one result bit ≡ one }
@@ -41,14 +41,14 @@ pub fn put(word: u64, bit: u32, one: bool) -> u64
     }
 }
 
-/// The bits of one word or another.
+/// The bits that are one in either word.
 pub fn either(one: u64, other: u64) -> u64
     ensures { (i : ℕ) → is_one result i ≡ (is_one one i || is_one other i) }
 {
     one | other
 }
 
-/// The lowest bit that is one, from one on.
+/// The lowest bit that is one, at `from` or above it.
 pub fn lowest(word: u64, from: u32) -> Option<u32>
     requires { from < 64 }
     ensures found { IfSome result (IsLowest word from) }
@@ -62,7 +62,7 @@ pub fn lowest(word: u64, from: u32) -> Option<u32>
     }
 }
 
-/// The lowest bit that is one of a word that has one.
+/// The lowest bit that is one, of a word that is not zero.
 pub fn least(word: u64) -> u32
     requires { 0 < word }
     ensures { IsLowest word 0 result }
@@ -70,7 +70,7 @@ pub fn least(word: u64) -> u32
     word.trailing_zeros()
 }
 
-/// All bits, or none.
+/// A word whose bits are all one, or all zero.
 pub fn even(full: bool) -> u64
     ensures even { IsEven result }
     ensures bits { (i : ℕ) → i < 64 → is_one result i ≡ full }

@@ -1,9 +1,9 @@
 //! The allocator: the state of every block number of a pool.
 //!
-//! A number is Free, Allocated or Waiting (profile). Waiting numbers are those of blocks that were let go and whose number
-//! may be used again only after the group is synced. The Free and the Waiting numbers are sets with a bit for each number, in words
-//! of 64, and two levels above that say which words have a bit: so a pool full of holes takes no more memory than another one, and a
-//! number is found, taken and released in constant time.
+//! A number is Free, Allocated or Waiting (profile). A number is Waiting when its block was released, but the number may be used again only
+//! after the group is synced. The Free numbers are one set, and the Waiting ones another. A set is a bitmap with a bit for each number, in words
+//! of 64, and above it two levels that say which words aren't zero. So a fragmented pool takes no more memory than another one, and a number is
+//! found, taken and released in constant time.
 #![tactic(auto)]
 
 ghost use Rattle.std.specs.Prelude.{◌≡◌, ◌≢◌, ℕ, ◌+◌, ◌/◌, ◌<◌, ◌≤◌, ◌||◌, true, false, length, IfSome, IfNone, IfOk, IfErr, Some, slice_get, slice_set, map, count_by, if◌then◌else◌, replicate};
@@ -39,7 +39,7 @@ pub enum BlockState {
     Free,
     /// A block has it.
     Allocated,
-    /// Its block was let go, and it becomes Free when the group ends.
+    /// Its block was released, and it becomes Free when the group ends.
     Waiting,
 }
 
@@ -53,9 +53,10 @@ pub struct Counts {
 
 /// The state of each number below the size of the pool. Contracts see the list of the states.
 ///
-/// The Free numbers are one set, and the Waiting ones another; every other number is Allocated. A set takes a bit for each number below
-/// the greatest that was ever taken out of the one or put into the other, and a 64th of that. The room for all is reserved by `new` and
-/// by `copy`, and the system gives its pages when they are first used: no other function takes memory.
+/// The Free numbers are one set, and the Waiting ones another; every other number is Allocated. The Free set takes a bit for each number below
+/// the greatest that was ever removed from it, and the Waiting set one for each number below the greatest that was ever added to it. Each takes
+/// a 64th of that more for its upper levels. `new` and `copy` reserve the room for all numbers, and the operating system provides its pages when
+/// they are first used. No other function takes memory.
 pub struct Allocator {
     free: NumberSet,
     waiting: NumberSet,
@@ -63,7 +64,7 @@ pub struct Allocator {
     waiting_count: u32,
 }
 
-// By hand, so that it is proved once: a derived one is laid out anew in each crate that drops the type.
+// Written by hand, so that it is proved once: a derived one is expanded anew in each crate that drops the type.
 impl Drop for Allocator {
     fn drop(self) {
         let Allocator {
@@ -108,8 +109,8 @@ impl Allocator {
         })
     }
 
-    /// Another allocator of the same states, with the room that `new` makes. NoMemory where the room was refused. It takes time and memory
-    /// by a 64th of the greatest number that was ever taken.
+    /// Another allocator with the same states, and with the room that `new` reserves. NoMemory where the room was refused. Its time and memory
+    /// are proportional to a 64th of the greatest number that was ever taken.
     pub fn copy(&self) -> Result<Allocator, Refusal>
         ensures ok { IfOk result (λ a. a ≡ self.now) }
         ensures no_memory { IfErr result (λ r. r ≡ Refusal.NoMemory) }
@@ -164,7 +165,7 @@ impl Allocator {
         Some(BlockNo(number))
     }
 
-    /// Makes a Free number Allocated. Constant time, but for the words before the number's that no number has asked for yet.
+    /// Makes a Free number Allocated. Constant time, but for the words before the number's that aren't there yet, which it adds.
     pub fn take(&mut self, b: BlockNo)
         requires { slice_get self.old b.0 ≡ Some Free }
         ensures { self.new ≡ slice_set self.old b.0 Allocated }
@@ -187,8 +188,7 @@ impl Allocator {
         }
     }
 
-    /// Makes each Waiting number Free. It costs by how many windows of 64 numbers have some that wait, and nothing by the
-    /// size of the pool.
+    /// Makes each Waiting number Free. It costs the number of windows of 64 numbers that have a Waiting one, whatever the size of the pool.
     pub fn end_group(&mut self)
         ensures { self.new ≡ map after_group self.old }
     {
@@ -197,8 +197,8 @@ impl Allocator {
         self.waiting_count = 0;
     }
 
-    /// Makes the states those of another allocator, from which they differ only where a number was touched. It costs by how many
-    /// windows were, and none by the size of the pool.
+    /// Makes the states equal to those of `other`, from which they differ only in windows that were touched. It costs the number of these
+    /// windows, whatever the size of the pool.
     fn catch_up(&mut self, other: &Allocator, touched: &Touched)
         requires len { length self.old ≡ length other.now }
         requires flags { length touched.now ≡ length self.old / WINDOW + 1 }
@@ -211,7 +211,7 @@ impl Allocator {
         self.waiting_count = other.waiting_count;
     }
 
-    /// Does what `catch_up` does where no number waits in either: so it copies the Free set alone.
+    /// Does what `catch_up` does, where neither allocator has a Waiting number. It copies only the Free set.
     fn catch_up_free(&mut self, other: &Allocator, touched: &Touched)
         requires len { length self.old ≡ length other.now }
         requires flags { length touched.now ≡ length self.old / WINDOW + 1 }
@@ -237,7 +237,7 @@ impl fmt::Debug for Allocator {
     }
 }
 
-/// Adds the numbers that wait to the Free ones, window by window.
+/// Moves the Waiting numbers to the Free set, window by window.
 fn free_all(free: &mut NumberSet, waiting: &mut NumberSet)
     requires free { IsKept free.old }
     requires waiting { IsKept waiting.old }

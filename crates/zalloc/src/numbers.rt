@@ -1,4 +1,4 @@
-//! The states of a pool's numbers, now and as the last sync left them.
+//! The states of a pool's numbers, now and after the last sync.
 ghost use Rattle.std.specs.Prelude.{◌≡◌, ◌≢◌, ◌≤◌, ℕ, IfOk, IfErr, Some, length, slice_get, slice_set, map, if◌then◌else◌, replicate};
 ghost use Rattle.zalloc.specs.States.{after_group};
 ghost use Rattle.zalloc.specs.declared.BlockState.TheVariants.{Free, Allocated, Waiting};
@@ -11,18 +11,18 @@ use std::alloc::Global;
 use std::fmt;
 use std::marker::Model;
 
-/// The state of each number of a pool, now and as the end of the last group left it. Contracts see both lists of states.
+/// The state of each number of a pool, now and at the end of the last group. Contracts see both lists of states.
 ///
-/// These are two allocators, and which windows of 64 numbers have changed since the last group ended: a byte for each, and four of
-/// room for a list of those. So to end a group, and to go back to where it began, cost by how many windows have changed, and nothing
-/// by the size of the pool. All room is reserved by `new`. An empty pool takes a byte for each 64 numbers.
+/// It has two allocators, and keeps which windows of 64 numbers have changed since the last group ended. That takes one byte for each window,
+/// and room for four more bytes each in a list of the changed ones. So ending a group, or going back to where it began, costs the number of
+/// changed windows, whatever the size of the pool. `new` reserves all the room. An empty pool takes a byte for each 64 numbers.
 pub struct Numbers {
     present: Allocator,
     synced: Allocator,
     touched: Touched,
 }
 
-// By hand, so that it is proved once: a derived one is laid out anew in each crate that drops the type.
+// Written by hand, so that it is proved once: a derived one is expanded anew in each crate that drops the type.
 impl Drop for Numbers {
     fn drop(self) {
         let Numbers {
@@ -49,8 +49,8 @@ impl Model for Numbers {
 }
 
 impl Numbers {
-    /// `n` numbers, at most `MOST_BLOCKS`, each Free now and after the last sync, with room for everything that will be kept.
-    /// NoMemory where the room was refused. It takes time by a 64th of `n`.
+    /// `n` numbers, at most `MOST_BLOCKS`, each Free now and after the last sync, with room for everything that will be kept. NoMemory where the
+    /// room was refused. Its time is proportional to a 64th of `n`.
     pub fn new(alloc: Global, n: u32) -> Result<Numbers, Refusal>
         requires { n ≤ MOST_BLOCKS }
         ensures present { IfOk result (λ m. m.present ≡ replicate n Free) }
@@ -74,7 +74,7 @@ impl Numbers {
         &self.present
     }
 
-    /// The states after the last group ended, of as many numbers. None waits. Constant time.
+    /// The states at the end of the last group, one for each number. None is Waiting. Constant time.
     pub fn synced(&self) -> &Allocator
         ensures states { result.now ≡ self.now.synced }
         ensures len { length result.now ≡ length self.now.present }
@@ -103,9 +103,9 @@ impl Numbers {
         self.present.release(b, wait);
     }
 
-    /// Makes each Waiting number Free, and the synced states the present ones: what a sync does. Another allocator that had the synced
-    /// states has the new ones too. It costs an `Allocator::end_group` and two words for each window of 64 numbers that has changed since
-    /// the last one, and takes no memory.
+    /// Makes each Waiting number Free, and the synced states equal to the present ones, as a sync does. `kept` is another allocator with the
+    /// synced states, and gets the new ones too. It costs an `Allocator::end_group`, and two words for each window of 64 numbers that has
+    /// changed since the last group ended. It takes no memory.
     pub fn end_group(&mut self, kept: &mut Allocator)
         requires { kept.old ≡ self.old.synced }
         ensures present { self.new.present ≡ map after_group self.old.present }
@@ -119,8 +119,8 @@ impl Numbers {
         self.touched.clear();
     }
 
-    /// Makes the present states those that the last group left: what an abandon does. It costs the windows of 64 numbers that have
-    /// changed since then, and takes no memory.
+    /// Makes the present states equal to the synced ones, as an abandon does. It costs the number of windows of 64 numbers that have changed
+    /// since the last group ended, and takes no memory.
     pub fn restore(&mut self)
         ensures present { self.new.present ≡ self.old.synced }
         ensures synced { self.new.synced ≡ self.old.synced }

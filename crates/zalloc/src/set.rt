@@ -1,4 +1,4 @@
-//! A set of numbers, a bit for each.
+//! A set of numbers, with a bit for each.
 ghost use Rattle.std.specs.Prelude.{◌≡◌, ◌≢◌, ℕ, ◌+◌, ◌*◌, ◌/◌, ◌%◌, ◌<◌, ◌≤◌, ◌⊎◌, true, false, length, slice_index, IfSome, IfNone, IfOk, Some, vec_capacity};
 ghost use Rattle.std.specs.List.{Contains};
 ghost use Rattle.zalloc.specs.Bits.{is_one, IsEven};
@@ -8,16 +8,16 @@ use crate::MOST_BLOCKS;
 use crate::bits::{even, has, least, lowest, put, with, without};
 use std::alloc::{AllocError, Global};
 
-/// How many numbers a window has, and how many words a bit of the level above each tells of.
+/// How many numbers a window has, and for how many words of a level one word of the level above has bits.
 pub const WINDOW: u32 = 64;
 
 /// A set of numbers below `numbers`.
 ///
-/// The numbers are divided into windows of 64. `words` has a word for each window, whose bits are its numbers. `groups` has a bit for each
-/// of these words, which says whether any of its bits is one, and `tops` one for each word of `groups`. So the next number of the set is
-/// found by reading a word or two of each level, of the last one at most 17. The words beyond those that are there are all `fill`, which has
-/// all bits or none: a set that begins full or empty takes memory as its numbers change, from the first on, in the room that `new` reserves.
-/// Of the last window's bits those from `numbers` on mean nothing.
+/// The numbers are divided into windows of 64. `words` has a word for each window, with a bit for each of its numbers. `groups` has a bit for
+/// each word of `words`, which says whether any bit of that word is one, and `tops` has such a bit for each word of `groups`. So a search for
+/// the next number of the set reads one or two words of `words` and of `groups`, and at most 17 of `tops`. A word past the end of a level's list
+/// counts as `fill`, whose bits are all one or all zero. So a set that begins full or empty uses memory only for the words up to the last one
+/// that has changed, in the room that `new` reserves. In the last window, the bits from `numbers` on have no meaning.
 #[derive(Drop)]
 pub struct NumberSet {
     numbers: u32,
@@ -28,7 +28,7 @@ pub struct NumberSet {
 }
 
 impl NumberSet {
-    /// All numbers below `numbers`, or none.
+    /// The set of all numbers below `numbers`, or the empty set.
     pub fn new(alloc: Global, numbers: u32, full: bool) -> Result<NumberSet, AllocError>
         requires { numbers ≤ MOST_BLOCKS }
         ensures kept { IfOk result IsKept }
@@ -47,7 +47,7 @@ impl NumberSet {
         })
     }
 
-    /// The same set again, with as much room.
+    /// A copy of the set, with as much room.
     pub fn copy(&self) -> Result<NumberSet, AllocError>
         requires { IsKept self.now }
         ensures kept { IfOk result IsKept }
@@ -62,7 +62,7 @@ impl NumberSet {
         })
     }
 
-    /// The bound of the numbers.
+    /// The bound: each number is below it.
     pub fn numbers(&self) -> u32
         ensures { result ≡ self.now.numbers }
     {
@@ -87,7 +87,7 @@ impl NumberSet {
         }
     }
 
-    // The first bit of the words that is one, from one on, whether or not it is a number.
+    // The first bit that is one, at `from` or after it. It may be a bit of the last window past `numbers`.
     fn next_bit(&self, from: u32) -> Option<u32>
         requires kept { IsKept self.now }
         requires within { from < self.now.numbers }
@@ -101,7 +101,7 @@ impl NumberSet {
         Some(first_of_word(&self.words, window, self.fill))
     }
 
-    // The first window from one on that has a number.
+    // The first window, at `from` or after it, that has a bit that is one.
     fn next_window(&self, from: u32) -> Option<u32>
         requires kept { IsKept self.now }
         requires within { from ≤ MOST_BLOCKS / WINDOW + 1 }
@@ -130,7 +130,7 @@ impl NumberSet {
         word_at(&self.words, window, self.fill)
     }
 
-    /// Gives a window's numbers the bits of a word.
+    /// Sets the bits of a window's numbers to those of a word.
     pub fn write(&mut self, window: u32, word: u64)
         requires kept { IsKept self.old }
         requires within { window < self.old.numbers / WINDOW + 1 }
@@ -151,7 +151,8 @@ impl NumberSet {
         put_bit(&mut self.tops, group, some, self.fill);
     }
 
-    /// Makes the set another one with as many numbers, from which it differs in these windows alone. It costs a `write` for each.
+    /// Makes the set equal to `other`, which has the same bound, and from which it differs only in these windows. It costs a `write` for each
+    /// window.
     pub fn copy_windows(&mut self, other: &NumberSet, windows: &[u32])
         requires kept { IsKept self.old }
         requires numbers { self.old.numbers ≡ other.now.numbers }
@@ -176,7 +177,7 @@ impl NumberSet {
         self.write(window, with(self.word(window), number % WINDOW));
     }
 
-    /// Takes a number out.
+    /// Removes a number.
     pub fn remove(&mut self, number: u32)
         requires kept { IsKept self.old }
         requires within { number < self.old.numbers }
@@ -188,7 +189,7 @@ impl NumberSet {
     }
 }
 
-/// A word of a level, of which those that aren't there yet are `fill`.
+/// A word of a level, or `fill` where the word isn't there yet.
 fn word_at(words: &[u64], index: u32, fill: u64) -> u64
     ensures { result ≡ word_in fill words.now index }
 {
@@ -198,7 +199,7 @@ fn word_at(words: &[u64], index: u32, fill: u64) -> u64
     }
 }
 
-/// Puts a word at its place in a level, behind those before it.
+/// Sets a word of a level. The words before it that aren't there yet are added as `fill`.
 fn put_word(words: &mut Vec<u64>, index: u32, word: u64, fill: u64)
     requires { index < vec_capacity words.old }
     ensures here { word_in fill words.new.items index ≡ word }
@@ -211,7 +212,7 @@ fn put_word(words: &mut Vec<u64>, index: u32, word: u64, fill: u64)
     words[index as usize] = word;
 }
 
-/// Puts a bit at its place in a level.
+/// Sets a bit of a level, as `put_word` sets its word.
 fn put_bit(words: &mut Vec<u64>, at: u32, bit: bool, fill: u64)
     requires { at / WINDOW < vec_capacity words.old }
     ensures here { bit_in fill words.new.items at ≡ bit }
@@ -224,7 +225,7 @@ fn put_bit(words: &mut Vec<u64>, at: u32, bit: bool, fill: u64)
     put_word(words, index, word, fill);
 }
 
-/// The first bit that is one of the word of a bit, from that on.
+/// The first bit that is one, at `from` or after it, in the word of `from`.
 fn first_in_word(words: &[u64], from: u32, fill: u64) -> Option<u32>
     ensures found { IfSome result (IsFirst fill words.now from) }
     ensures same { IfSome result (λ k. k / WINDOW ≡ from / WINDOW) }
@@ -237,7 +238,7 @@ fn first_in_word(words: &[u64], from: u32, fill: u64) -> Option<u32>
     }
 }
 
-/// The first bit that is one of a word that has one.
+/// The first bit that is one, of a word that is not zero.
 fn first_of_word(words: &[u64], index: u32, fill: u64) -> u32
     requires some { has_one (word_in fill words.now index) ≡ true }
     requires few { index < MOST_BLOCKS }
@@ -247,7 +248,7 @@ fn first_of_word(words: &[u64], index: u32, fill: u64) -> u32
     index * WINDOW + least(word_at(words, index, fill))
 }
 
-/// The first bit of a level that is one, from one on, word by word.
+/// The first bit of a level that is one, at `from` or after it. It searches word by word.
 fn next_by_word(words: &[u64], from: u32, fill: u64) -> Option<u32>
     requires fill { IsEven fill }
     requires few { from < MOST_BLOCKS / WINDOW }
@@ -266,7 +267,7 @@ fn next_by_word(words: &[u64], from: u32, fill: u64) -> Option<u32>
     if fill == 0 { None } else { Some(start) }
 }
 
-/// The words again, with as much room.
+/// A copy of the words, with as much room.
 fn copy_words(words: &Vec<u64>) -> Result<Vec<u64>, AllocError>
     ensures items { IfOk result (λ v. v.items ≡ words.now.items) }
     ensures room { IfOk result (λ v. vec_capacity v ≡ vec_capacity words.now) }

@@ -7,9 +7,9 @@ use crate::set::WINDOW;
 use std::alloc::{AllocError, Global};
 use std::marker::Model;
 
-/// The windows of which a number was noted. Contracts see for each window whether one was.
+/// The windows of which a number was noted. Contracts see for each window whether one of its numbers was.
 ///
-/// It takes a byte for each window, and four of room for the list of those that were noted. Only `new` takes memory.
+/// It takes one byte for each window, and room for four more bytes each in the list of those that were noted. Only `new` takes memory.
 #[derive(Drop)]
 pub struct Touched {
     flags: Vec<bool>,
@@ -29,7 +29,7 @@ impl Model for Touched {
 }
 
 impl Touched {
-    /// None of the windows of so many numbers.
+    /// The windows of this many numbers, none of them noted.
     pub fn new(alloc: Global, numbers: u32) -> Result<Touched, AllocError>
         requires { numbers ≤ MOST_BLOCKS }
         ensures { IfOk result (λ t. t ≡ replicate (numbers / WINDOW + 1) false) }
@@ -40,7 +40,7 @@ impl Touched {
         Ok(Touched { flags, noted })
     }
 
-    /// Notes a number. Constant time.
+    /// Notes the window of a number. Constant time.
     pub fn note(&mut self, number: u32)
         requires { number / WINDOW < length self.old }
         ensures { self.new ≡ slice_set self.old (number / WINDOW) true }
@@ -52,7 +52,7 @@ impl Touched {
         }
     }
 
-    /// The windows of the numbers that were noted.
+    /// The list of the windows that were noted.
     pub fn noted(&self) -> &[u32]
         ensures all { (w : ℕ) → slice_get self.now w ≡ Some true → Contains result.now w }
         ensures within { (i : ℕ) → i < length result.now → slice_index result.now i < length self.now }
@@ -60,7 +60,7 @@ impl Touched {
         self.noted.as_slice()
     }
 
-    /// Forgets all of them. It costs by how many windows were noted, and none by how many there are.
+    /// Forgets all noted windows. It costs their number, and not the number of all windows.
     pub fn clear(&mut self)
         ensures { self.new ≡ replicate (length self.old) false }
     {
@@ -68,7 +68,7 @@ impl Touched {
     }
 }
 
-/// Takes back the flags of the windows of the list, which has all that have one, and empties the list.
+/// Clears the flags of the windows in the list, and empties the list. Each window that has its flag is in the list.
 fn unflag(flags: &mut Vec<bool>, noted: &mut Vec<u32>)
     requires { (w : ℕ) → slice_get flags.old.items w ≡ Some true → Contains noted.old.items w }
     ensures flags { flags.new.items ≡ replicate (length flags.old.items) false }

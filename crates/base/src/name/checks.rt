@@ -8,10 +8,10 @@ use crate::refusal::Refusal;
 use crate::text::Bytes;
 use std::alloc::Global;
 
-/// A whole name has at most this many bytes, and so has a tag (profile). Contracts have it as `name_limit`.
+/// A whole name has at most this many bytes, and so has a tag (profile). Contracts call it `name_limit`.
 pub const NAME_LIMIT: usize = 255;
 
-// A copy of the bytes, where they are allowed.
+// A copy of the bytes where they are allowed. BadName where they are not, NoMemory where there is no memory for it.
 pub fn admitted(alloc: Global, bytes: &[u8], is_allowed: bool) -> Result<Bytes, Refusal>
     ensures { Reads result (if is_allowed then Some bytes.now else None) }
 {

@@ -10,7 +10,7 @@ use crate::refusal::Refusal;
 use std::alloc::Global;
 use std::marker::Model;
 
-/// A file system's name, and what stands after the `@` or `#`.
+/// The two parts of a snapshot's or bookmark's name: the file system's name, and the component after the `@` or `#`.
 #[derive(Drop, Clone, PartialEq, Eq, Debug)]
 pub struct Member {
     pub file_system: DsName,
@@ -25,7 +25,7 @@ impl Member {
         self.file_system.same(&other.file_system) && self.component.same(&other.component)
     }
 
-    // How many bytes a name of these parts has, with the one between. Constant time.
+    // The length in bytes of the name of these parts, with the `@` or `#` between them. Constant time.
     fn whole_length(&self) -> usize
         ensures { result ≡ whole_length self.now }
     {
@@ -71,7 +71,7 @@ impl TryFrom<Member> for SnapName {
 }
 
 impl SnapName {
-    /// Reads a snapshot's name. BadName where the bytes are none, NoMemory where there is no memory for it.
+    /// Reads a snapshot's name. BadName where the bytes are not one, NoMemory where there is no memory for it.
     #[tactic(auto, unfolding(crate::specs::Reading::snap_of))]
     pub fn read(alloc: Global, bytes: &[u8]) -> Result<SnapName, Refusal>
         ensures { Reads result (snap_of bytes.now) }
@@ -83,7 +83,7 @@ impl SnapName {
         }
     }
 
-    /// Its parts. With the byte between they are at most 255 bytes.
+    /// Its two parts. With the `@` or `#` between them they have at most 255 bytes.
     pub fn member(&self) -> &Member
         ensures value { result.now ≡ self.now }
         ensures short { whole_length result.now ≤ name_limit }
@@ -137,7 +137,7 @@ impl TryFrom<Member> for MarkName {
 }
 
 impl MarkName {
-    /// Reads a bookmark's name. BadName where the bytes are none, NoMemory where there is no memory for it.
+    /// Reads a bookmark's name. BadName where the bytes are not one, NoMemory where there is no memory for it.
     #[tactic(auto, unfolding(crate::specs::Reading::mark_of))]
     pub fn read(alloc: Global, bytes: &[u8]) -> Result<MarkName, Refusal>
         ensures { Reads result (mark_of bytes.now) }
@@ -149,7 +149,7 @@ impl MarkName {
         }
     }
 
-    /// Its parts. With the byte between they are at most 255 bytes.
+    /// Its two parts. With the `@` or `#` between them they have at most 255 bytes.
     pub fn member(&self) -> &Member
         ensures value { result.now ≡ self.now }
         ensures short { whole_length result.now ≤ name_limit }

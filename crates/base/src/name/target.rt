@@ -17,8 +17,8 @@ pub enum Target {
 }
 
 impl Target {
-    /// Reads a name of any kind, which its first `@` or `#` tells. BadName where the bytes are none, NoMemory where there is
-    /// no memory for it.
+    /// Reads a name of any kind. The first `@` or `#` tells the kind; without either it is a file system's name. BadName where the bytes are not
+    /// a name, NoMemory where there is no memory for it.
     #[tactic(auto, unfolding(crate::specs::Reading::target_of, crate::specs::Reading::name_of, crate::specs::Reading::component_of))]
     pub fn read(alloc: Global, bytes: &[u8]) -> Result<Target, Refusal>
         ensures { Reads result (target_of bytes.now) }

@@ -1,5 +1,5 @@
 //! Names of file systems, components of names, and tags.
-ghost use Rattle.std.specs.Prelude.{◌≡◌, ◌↔◌, IsTrue};
+ghost use Rattle.std.specs.Prelude.{◌≡◌, ◌↔◌, Some, IsTrue};
 ghost use Rattle.base.specs.Reading.{Reads, name_of, component_of, tag_of};
 
 use crate::name::checks::{admitted, is_component_of, is_name_of, is_tag_of};
@@ -15,17 +15,20 @@ pub struct DsName {
 }
 
 impl Model for DsName {
-    ghost use Rattle.std.specs.Prelude.{List, ℕ};
+    ghost use Rattle.std.specs.Prelude.{◌≡◌, List, ℕ, true};
+    ghost use Rattle.base.specs.Words.{is_name};
 
     ghost Value = { List ℕ };
 
     ghost view = { λ n. n.path };
 
+    ghost invariant = { λ n. is_name n.path ≡ true };
+
     ghost inverse = { λ b. record { path = b } };
 }
 
 impl DsName {
-    /// Reads a file system's name. BadName where the bytes are none, NoMemory where there is no memory for it.
+    /// Reads a file system's name. BadName where the bytes are not one, NoMemory where there is no memory for it.
     #[tactic(auto, unfolding(crate::specs::Reading::name_of))]
     pub fn read(alloc: Global, bytes: &[u8]) -> Result<DsName, Refusal>
         ensures { Reads result (name_of bytes.now) }
@@ -34,9 +37,11 @@ impl DsName {
         Ok(DsName { path })
     }
 
-    /// Its bytes, as written.
+    /// Its bytes, as written. `read` accepts them and gives the same name.
+    #[tactic(auto, unfolding(crate::specs::Reading::name_of))]
     pub fn as_bytes(&self) -> &[u8]
-        ensures { result.now ≡ self.now }
+        ensures value { result.now ≡ self.now }
+        ensures reads { name_of result.now ≡ Some result.now }
     {
         self.path.as_slice()
     }
@@ -49,24 +54,27 @@ impl DsName {
     }
 }
 
-/// One component of a name, which is what stands after a snapshot's `@` or a bookmark's `#`. Contracts see its bytes.
+/// One component of a name, such as the part after a snapshot's `@` or a bookmark's `#`. Contracts see its bytes.
 #[derive(Drop, Clone, PartialEq, Eq, Debug)]
 pub struct Component {
     word: Bytes,
 }
 
 impl Model for Component {
-    ghost use Rattle.std.specs.Prelude.{List, ℕ};
+    ghost use Rattle.std.specs.Prelude.{◌≡◌, List, ℕ, true};
+    ghost use Rattle.base.specs.Words.{is_component};
 
     ghost Value = { List ℕ };
 
     ghost view = { λ n. n.word };
 
+    ghost invariant = { λ n. is_component n.word ≡ true };
+
     ghost inverse = { λ b. record { word = b } };
 }
 
 impl Component {
-    /// Reads a component, of any length. BadName where the bytes are none, NoMemory where there is no memory for it.
+    /// Reads a component, of any length. BadName where the bytes are not one, NoMemory where there is no memory for it.
     #[tactic(auto, unfolding(crate::specs::Reading::component_of))]
     pub fn read(alloc: Global, bytes: &[u8]) -> Result<Component, Refusal>
         ensures { Reads result (component_of bytes.now) }
@@ -75,9 +83,11 @@ impl Component {
         Ok(Component { word })
     }
 
-    /// Its bytes, as written.
+    /// Its bytes, as written. `read` accepts them and gives the same component.
+    #[tactic(auto, unfolding(crate::specs::Reading::component_of))]
     pub fn as_bytes(&self) -> &[u8]
-        ensures { result.now ≡ self.now }
+        ensures value { result.now ≡ self.now }
+        ensures reads { component_of result.now ≡ Some result.now }
     {
         self.word.as_slice()
     }
@@ -90,7 +100,7 @@ impl Component {
     }
 }
 
-/// The tag of a hold: 1 to 255 bytes of those that components have, `.` and `..` among them (zfs-hold(8); profile).
+/// The tag of a hold: 1 to 255 bytes, of those that a component may have. Unlike a component, a tag may be `.` or `..` (zfs-hold(8); profile).
 /// Contracts see its bytes.
 #[derive(Drop, Clone, PartialEq, Eq, Debug)]
 pub struct Tag {
@@ -98,17 +108,20 @@ pub struct Tag {
 }
 
 impl Model for Tag {
-    ghost use Rattle.std.specs.Prelude.{List, ℕ};
+    ghost use Rattle.std.specs.Prelude.{◌≡◌, List, ℕ, true};
+    ghost use Rattle.base.specs.Words.{is_tag};
 
     ghost Value = { List ℕ };
 
     ghost view = { λ t. t.tag };
 
+    ghost invariant = { λ t. is_tag t.tag ≡ true };
+
     ghost inverse = { λ b. record { tag = b } };
 }
 
 impl Tag {
-    /// Reads a tag. BadName where the bytes are none, NoMemory where there is no memory for it.
+    /// Reads a tag. BadName where the bytes are not one, NoMemory where there is no memory for it.
     #[tactic(auto, unfolding(crate::specs::Reading::tag_of))]
     pub fn read(alloc: Global, bytes: &[u8]) -> Result<Tag, Refusal>
         ensures { Reads result (tag_of bytes.now) }
@@ -117,9 +130,11 @@ impl Tag {
         Ok(Tag { tag })
     }
 
-    /// Its bytes, as written.
+    /// Its bytes, as written. `read` accepts them and gives the same tag.
+    #[tactic(auto, unfolding(crate::specs::Reading::tag_of))]
     pub fn as_bytes(&self) -> &[u8]
-        ensures { result.now ≡ self.now }
+        ensures value { result.now ≡ self.now }
+        ensures reads { tag_of result.now ≡ Some result.now }
     {
         self.tag.as_slice()
     }

@@ -38,6 +38,7 @@ pub fn would_free(
     ensures only { IfErr result (λ e. range_refusal table.now name.now first.now last.now ≡ Some e) }
     ensures meter { OnOk result (segments.new ≤ segments.old + length (range_ids table.now name.now first.now last.now)) }
     ensures unread { OnErr result (segments.new ≡ segments.old) }
+    ensures never_lower { segments.old ≤ segments.new }
 {
     table.facts();
     let (file_system, oldest, _last, around) = range_of(table, name, first, last)?;

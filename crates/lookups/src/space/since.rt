@@ -1,5 +1,5 @@
 //! What a dataset has written since a snapshot of its lineage.
-ghost use Rattle.std.specs.Prelude.{◌≡◌, ◌-◌, Some, None, IfSome, IfNone, IfOk, IfErr, OnOk, nat_lt, true, false};
+ghost use Rattle.std.specs.Prelude.{◌≡◌, ◌≤◌, ◌-◌, Some, None, IfSome, IfNone, IfOk, IfErr, OnOk, nat_lt, true, false};
 ghost use Rattle.std.specs.Option.{option_map, option_map_or, option_copied};
 ghost use Rattle.std.specs.FinSet.{len};
 ghost use Rattle.base.specs.Map.{blocks};
@@ -32,6 +32,7 @@ pub fn written_since(
     ensures refused { IfSome (since_refusal table.now target.now since.now) (λ e. result ≡ Err e) }
     ensures only { IfErr result (λ e. since_refusal table.now target.now since.now ≡ Some e) }
     ensures meter { IfOk result (λ n. HasReachedNamed table.now target.now since.now (segments.new - segments.old)) }
+    ensures never_lower { segments.old ≤ segments.new }
 {
     table.facts();
     let Some((file_system, dataset)) = dataset_named(table, target) else {
@@ -104,6 +105,7 @@ fn gone_since(
     ensures some { IfSome result (IsDeadSince table.now (dataset_at file_system.now (option_copied dataset.entry)) (snap_id since)) }
     ensures none { IfNone result (is_before table.now (dataset_at file_system.now (option_copied dataset.entry)) (snap_id since) ≡ false) }
     ensures meter { IfSome result (λ n. HasReached table.now (dataset_at file_system.now (option_copied dataset.entry)) (snap_id since) (segments.new - segments.old)) }
+    ensures never_lower { segments.old ≤ segments.new }
 {
     table.facts();
     let group = since.group;

@@ -1,5 +1,5 @@
 //! The blocks that only one snapshot has.
-ghost use Rattle.std.specs.Prelude.{◌≡◌, ℕ, List, Some, IfOk, IfErr, OnOk, map};
+ghost use Rattle.std.specs.Prelude.{◌≡◌, ◌≤◌, ℕ, List, Some, IfOk, IfErr, OnOk, map};
 ghost use Rattle.std.specs.Option.{option_map};
 ghost use Rattle.base.specs.declared.refusal.Refusal.{Refusal};
 ghost use Rattle.base.specs.Surveys.{IsIn};
@@ -29,6 +29,7 @@ pub fn used_by_snapshot(
 ) -> Result<Option<u32>, Refusal>
     ensures ok { IfOk result (λ n. n ≡ option_map (λ t. used_by_snap (world_of table.now) (id_of t)) (snap_named (world_of table.now) name.now)) }
     ensures err { IfErr result (λ e. e ≡ Refusal.NoMemory) }
+    ensures never_lower { segments.old ≤ segments.new }
 {
     table.facts();
     let Some((file_system, snapshot)) = table.snapshot_named(&name.file_system, &name.component)
@@ -52,6 +53,7 @@ fn count_alone(
     requires { IsPlace table.now file_system.now (Some snapshot.now) }
     ensures ok { IfOk result (λ n. n ≡ used_by_snap (world_of table.now) (id_of snapshot.now)) }
     ensures err { IfErr result (λ e. e ≡ Refusal.NoMemory) }
+    ensures never_lower { segments.old ≤ segments.new }
 {
     table.facts();
     let group = snapshot.group();
@@ -75,6 +77,7 @@ fn remove_all_of_clones(
     requires { (n : List ℕ) → IsIn (map name_of clones.now) n → IsCloneAbove table.now alone.old n }
     ensures ok { OnOk result (alone.new ≡ struck table.now alone.old (map name_of clones.now)) }
     ensures err { IfErr result (λ e. e ≡ Refusal.NoMemory) }
+    ensures never_lower { segments.old ≤ segments.new }
 {
     table.facts();
     for clone in clones {

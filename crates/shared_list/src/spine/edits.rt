@@ -26,9 +26,8 @@ pub(crate) fn copied<T: Drop>(
     Ok(owners)
 }
 
-/// Puts an element behind the others, into the last chunk, or, where that is full, into another. Constant time, where the last chunk
-/// has no other owner, but for a growth of what holds the pointers; else the last chunk is made anew. AllocError where memory is
-/// refused; then the elements are as they were.
+/// Adds an element at the end, in a new chunk if the last one is full. If the last chunk has no other owner, it takes constant time, but for a
+/// growth of the vector of pointers; else a new chunk replaces it. AllocError where memory is refused; then the elements are unchanged.
 pub(crate) fn push_item<T: Drop>(
     chunks: &mut Vec<Arc<Chunk<T>>>,
     item: Arc<T>,
@@ -47,9 +46,9 @@ pub(crate) fn push_item<T: Drop>(
     Ok(())
 }
 
-/// Puts an element at that place of that chunk, before what stands there. It costs at most one chunk, and is done in place where that
-/// has no other owner and isn't full; a full one becomes two, which moves the pointers to the chunks behind it. AllocError where
-/// memory is refused; then the elements are as they were.
+/// Inserts an element at index `at` of chunk `k`. It costs at most one chunk. It is done in place if the chunk has no other owner and isn't
+/// full. A full chunk is split in two, which moves the pointers to the chunks behind it. AllocError where memory is refused; then the elements
+/// are unchanged.
 pub(crate) fn insert_item<T: Drop>(
     chunks: &mut Vec<Arc<Chunk<T>>>,
     k: usize,
@@ -70,8 +69,8 @@ pub(crate) fn insert_item<T: Drop>(
     Ok(())
 }
 
-/// Puts an element at that place of that chunk, instead of what stands there. It is done in place where the chunk has no other owner,
-/// else the chunk is made anew. AllocError where memory is refused; then the elements are as they were.
+/// Replaces the element at index `at` of chunk `k`. It is done in place if the chunk has no other owner; else a new chunk replaces it.
+/// AllocError where memory is refused; then the elements are unchanged.
 pub(crate) fn set_item<T: Drop>(
     chunks: &mut Vec<Arc<Chunk<T>>>,
     k: usize,
@@ -86,8 +85,8 @@ pub(crate) fn set_item<T: Drop>(
     Ok(())
 }
 
-/// Takes out the element at that place of that chunk, as `remove_item` does, but leaves two neighbours that fit in one chunk as they
-/// are. Constant time in the last chunk, where that has no other owner.
+/// Removes and answers the element at index `at` of chunk `k`, as `remove_item` does, but doesn't merge neighbouring chunks. Constant time in
+/// the last chunk, if that has no other owner.
 pub(crate) fn take_item<T: Drop>(
     chunks: &mut Vec<Arc<Chunk<T>>>,
     k: usize,
@@ -107,9 +106,9 @@ pub(crate) fn take_item<T: Drop>(
     Ok(item)
 }
 
-/// Takes out the element at that place of that chunk, and gives it. It costs at most three chunks, and that chunk is changed in place
-/// where it has no other owner; one that is emptied goes, and neighbours that fit in one chunk become one, unless memory for it is
-/// refused, which is no error. AllocError where memory is refused for the removal; then the elements are as they were.
+/// Removes and answers the element at index `at` of chunk `k`. It costs at most three chunks. The chunk is changed in place if it has no other
+/// owner. A chunk that is emptied is removed, and neighbouring chunks that fit in one are merged, unless memory for it is refused, which is not
+/// an error. AllocError where memory is refused for the removal; then the elements are unchanged.
 pub(crate) fn remove_item<T: Drop>(
     chunks: &mut Vec<Arc<Chunk<T>>>,
     k: usize,
@@ -126,7 +125,7 @@ pub(crate) fn remove_item<T: Drop>(
     Ok(item)
 }
 
-/// Makes one chunk of that one and the one before it, where they fit in one and there is memory for it.
+/// Merges chunk `k` with the one before it, if they fit in one chunk and there is memory for it.
 pub(crate) fn join<T: Drop>(chunks: &mut Vec<Arc<Chunk<T>>>, k: usize)
     ensures { elements chunks.new.items ≡ elements chunks.old.items }
 {
@@ -142,7 +141,7 @@ pub(crate) fn join<T: Drop>(chunks: &mut Vec<Arc<Chunk<T>>>, k: usize)
     }
 }
 
-/// Keeps the elements before that index, and gives the chunks of the others.
+/// Keeps the elements before that index, and answers the chunks of the others.
 pub(crate) fn cut_off<T: Drop>(
     chunks: &mut Vec<Arc<Chunk<T>>>,
     index: usize,
@@ -164,7 +163,7 @@ pub(crate) fn cut_off<T: Drop>(
     Ok(rest)
 }
 
-/// Moves the other chunks behind these.
+/// Moves the chunks of `other` to the end of `chunks`.
 pub(crate) fn pour<T: Drop>(
     chunks: &mut Vec<Arc<Chunk<T>>>,
     other: &mut Vec<Arc<Chunk<T>>>,
@@ -180,7 +179,7 @@ pub(crate) fn pour<T: Drop>(
     Ok(())
 }
 
-/// Changes the chunk at a place among chunks of chunks: where it is, if neither it nor the one that has it has another owner.
+/// Changes the chunk at a place of these groups: in place if neither it nor its group has another owner.
 pub(crate) fn change_deep<T: Drop>(
     groups: &mut Vec<Arc<Chunk<Chunk<T>>>>,
     place: Place,

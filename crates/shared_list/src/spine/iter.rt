@@ -6,7 +6,7 @@ ghost use Rattle.shared_list.specs.Ahead.{ahead};
 use crate::chunk::Chunk;
 use std::sync::Arc;
 
-/// An iterator over the elements of a spine, first to last, each in constant time. Contracts see by `ahead` which are left.
+/// An iterator over the elements of a spine, first to last, each in constant time. Contracts see the elements that are left as `ahead`.
 #[derive(Drop)]
 pub struct SpineIter<'a, T> {
     here: &'a [Arc<T>],

@@ -1,4 +1,4 @@
-//! Where elements stand among the chunks of a spine.
+//! The places of elements in the chunks of a spine.
 ghost use Rattle.std.specs.Prelude.{◌≡◌, ◌+◌, ◌<◌, Some, Bool, length, take, slice_get, IfSome};
 ghost use Rattle.std.specs.Arc.{arc_value};
 ghost use Rattle.std.specs.Fn.{ComputesKey};
@@ -11,7 +11,7 @@ use crate::cut::cut_of;
 use crate::place::Place;
 use std::sync::Arc;
 
-/// Where the element with that index stands. It costs a walk over the chunks before it.
+/// The place of the element with that index. It costs a walk over the chunks before it.
 pub(crate) fn place_of<T: Drop>(chunks: &[Arc<Chunk<T>>], index: usize) -> Place
     requires { index < length (elements chunks.now) }
     ensures place { IsItem arc_value chunks.now result.k result.at }
@@ -36,7 +36,7 @@ pub(crate) fn item_at<T: Drop>(chunks: &[Arc<Chunk<T>>], place: Place) -> &T
     chunks[place.k].get(place.at)
 }
 
-/// Where the first element stands that a test doesn't pass, where those that pass come first, or None where all pass. It costs the
+/// The place of the first element that doesn't pass a test, or None where all pass. The elements that pass must come first. It costs the
 /// logarithm of the number of elements.
 pub(crate) fn point<T: Drop, P: Fn(&T) -> bool>(chunks: &[Arc<Chunk<T>>], test: &P) -> Option<Place>
     requires { P.IsAlwaysCallable test.now }
@@ -57,7 +57,7 @@ pub(crate) fn point<T: Drop, P: Fn(&T) -> bool>(chunks: &[Arc<Chunk<T>>], test: 
     Some(Place { k, at })
 }
 
-/// How many elements stand before a place of chunks that have so many. It costs a walk over the chunks before it.
+/// How many elements are before a place, in chunks that have `len` elements in all. It costs a walk over the chunks before it.
 pub(crate) fn index_of<T: Drop>(chunks: &[Arc<Chunk<T>>], place: Place, len: usize) -> usize
     requires place { IsItem arc_value chunks.now place.k place.at }
     requires len { len ≡ length (elements chunks.now) }

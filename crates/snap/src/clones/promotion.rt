@@ -1,5 +1,5 @@
 //! The promote of a clone.
-ghost use Rattle.std.specs.Prelude.{◌≡◌, ◌⊎◌, Some, None, IfSome, IfErr, OnOk, OnErr, nat_lt};
+ghost use Rattle.std.specs.Prelude.{◌≡◌, ◌≤◌, ◌⊎◌, Some, None, IfSome, IfErr, OnOk, OnErr, nat_lt};
 ghost use Rattle.std.specs.List.{list_any};
 ghost use Rattle.std.specs.Option.{option_map};
 ghost use Rattle.base.specs.declared.refusal.Refusal.{Refusal};
@@ -42,6 +42,7 @@ pub fn promote(
     ensures unchanged { OnErr result (table.new ≡ table.old) }
     ensures only { IfErr result (λ e. (promote_refusal table.old name.now ≡ Some e) ⊎ (e ≡ Refusal.NoMemory)) }
     ensures previous { OnOk result (KeepsPrevious table.old table.new) }
+    ensures never_lower { segments.old ≤ segments.new }
 {
     table.facts();
     if let Some(refusal) = refusal_of(table, name) {

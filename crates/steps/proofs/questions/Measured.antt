@@ -107,7 +107,7 @@ module _ (s : State) (steady : IsSteady s) (t : Datasets) (is : datasets_of s �
         (here (λ d. (name : List ℕ) → target ≡ OfFileSystem name → property ≡ Available → IsSome (get d.file_systems name) → room ≡ room_of s name) told)
         (here (λ d. Some v ≡ value_named d room target property) found)
 
-    pub get_wanting : (why : Refusal) → (needs_memory property ≡ true) × (why ≡ NoMemory) → Step s (Get target property) (Refused why) s
+    pub get_wanting : (why : Refusal) → (needs_memory target property ≡ true) × (why ≡ NoMemory) → Step s (Get target property) (Refused why) s
     get_wanting why wants = subst (λ r. Step s (Get target property) (Refused r) s) (sym wants.1) (get_no_memory s steady target property wants.0)
 
   module _ (target : Target) (since : Member) where

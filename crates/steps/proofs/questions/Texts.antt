@@ -24,7 +24,7 @@ use Rattle.steps.proofs.numbers.Ruled.{no_memory_by}
 
 module _ (s : State) (good : IsSteady s) where
   -- memory may be wanting
-  pub get_no_memory : (target : Target) (p : Property) → needs_memory p ≡ true → Step s (Get target p) (Refused NoMemory) s
+  pub get_no_memory : (target : Target) (p : Property) → needs_memory target p ≡ true → Step s (Get target p) (Refused NoMemory) s
   get_no_memory target p needs = no_memory_by (Get target p) (get_rule target p) (None, refl, refl) s needs
 
   module _ (name : List ℕ) (f : FileSystem) (was : get s.now.file_systems name ≡ Some f) where

@@ -1,12 +1,12 @@
-//! Where the blocks of objects stand.
+//! The leaves of the blocks of objects.
 ghost use Rattle.std.specs.Prelude.{◌≡◌, ◌≤◌, ◌⊎◌, ◌↔◌, IfSome, IsNone};
 ghost use Rattle.base.specs.Key.{leaf_index};
 ghost use Rattle.tree.specs.Blocks.{IsNoBlock};
 
-/// A dataset has so many objects (profile).
+/// How many objects a dataset has (profile).
 pub const OBJECT_LIMIT: u32 = 256;
 
-/// An object has so many blocks (profile).
+/// How many blocks an object has (profile).
 pub const BLOCK_LIMIT: u32 = 4096;
 
 /// The leaf of a block of an object, or none where there is no such object or block.

@@ -15,9 +15,9 @@ use base::meter::Meter;
 use base::number::Key;
 use base::refusal::Refusal;
 
-/// The 512 bytes of a block of an object, or none where it is a hole. BadKey exactly where the object is above 255 or the block
-/// above 4095, and then nothing was reached. The bytes are the tree's own. It takes no memory. It costs the nodes from the root to
-/// the block, which the meter counts: at most six.
+/// The 512 bytes of a block of an object, or none where it is a hole. BadKey exactly where the object is above 255 or the block above 4095, and
+/// then no node was reached. The bytes are borrowed from the tree. It takes no memory. It costs the nodes from the root to the block, which the
+/// meter counts: at most six.
 pub fn read<'a>(
     tree: &'a Tree,
     object: u32,
@@ -29,6 +29,7 @@ pub fn read<'a>(
     ensures only { IfErr result (λ e. e ≡ Refusal.BadKey) }
     ensures metered { OnOk result (meter.new ≡ counted meter.old (present_on_path tree.now (record { level = 0; index = leaf_index object block }))) }
     ensures unmetered { OnErr result (meter.new ≡ meter.old) }
+    ensures never_lower { meter.old ≤ meter.new }
 {
     let Some(leaf) = leaf_of(object, block) else {
         return Err(Refusal::BadKey);

@@ -11,8 +11,8 @@ use crate::objset::leaf::{OBJECT_LIMIT, leaf_of};
 use base::number::Key;
 use base::refusal::Refusal;
 
-/// The update that writes one block of an object (On-Disk Specification, chapter 3). BadKey exactly where the object is above 255
-/// or the block above 4095. The bytes are lent. It takes no memory. Constant time.
+/// The update that writes one block of an object (On-Disk Specification, chapter 3). BadKey exactly where the object is above 255 or the block
+/// above 4095. The update borrows the bytes. It takes no memory. Constant time.
 pub fn write_of<'a>(object: u32, block: u32, bytes: &'a [u8; 512]) -> Result<Update<'a>, Refusal>
     ensures batch { IfOk result (λ update. IsBatch (update ∷ [])) }
     ensures changes { IfOk result (λ update. changes_of (update ∷ []) ≡ writes_leaf (leaf_index object block) bytes.now) }

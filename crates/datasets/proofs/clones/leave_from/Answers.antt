@@ -18,7 +18,7 @@ pub returns-in-Ok-clause-set : goal.returns-in-Ok-clause-set
 returns-in-Ok-clause-set c =
     let items = c.args.entries.now.items in
     let key : CloneKey = (snap_id c.in-Some.origin, c.args.name.now) in
-    let at : IsCloneAt (map key_in items) key c.in-Ok.place = rw (← c.deref.ensures.value, ← c.as_bytes.ensures) c.in-Ok.ensures.found in
+    let at : IsCloneAt (map key_in items) key c.in-Ok.place = rw (← c.deref.ensures.value, ← c.as_bytes.ensures.value) c.in-Ok.ensures.found in
     ap (from_sorted {R = key_cmp}) (map_removed key_in items c.remove-gone.new.self.items c.in-Ok.place c.remove-gone.ensures.items)
     ∙ left_is (map key_in items) c.requires.order key c.in-Ok.place at
     ∙ ap (λ o. without_origin (set_of items) c.args.name.now (option_map snap_id o)) (sym c.in-Some.is)
@@ -28,6 +28,6 @@ pub returns-in_default-place-clause-set : goal.returns-in_default-place-clause-s
 returns-in_default-place-clause-set c =
     let items = c.args.entries.now.items in
     let key : CloneKey = (snap_id c.in-Some.origin, c.args.name.now) in
-    let gap : IsCloneGap (map key_in items) key c.in_default-place.field-0 = rw (← c.deref.ensures.value, ← c.as_bytes.ensures) c.in_default-place.ensures.absent in
+    let gap : IsCloneGap (map key_in items) key c.in_default-place.field-0 = rw (← c.deref.ensures.value, ← c.as_bytes.ensures.value) c.in_default-place.ensures.absent in
     absent_is (map key_in items) c.requires.order key c.in_default-place.field-0 gap
     ∙ ap (λ o. without_origin (set_of items) c.args.name.now (option_map snap_id o)) (sym c.in-Some.is)

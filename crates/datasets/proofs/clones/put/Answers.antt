@@ -17,7 +17,7 @@ returns-in-Ok-clause-order c =
     let items = c.args.entries.now.items in
     let key : CloneKey = (snap_id c.in-Some.origin, arc_value c.args.name) in
     let made : CloneName = record { origin = c.in-Some.origin; name = c.args.name } in
-    let gap : IsCloneGap (map key_in items) key c.in-Err.place = rw (← c.deref.ensures.value, ← c.deref-2.ensures, ← c.as_bytes.ensures) c.in-Err.ensures.absent in
+    let gap : IsCloneGap (map key_in items) key c.in-Err.place = rw (← c.deref.ensures.value, ← c.deref-2.ensures, ← c.as_bytes.ensures.value) c.in-Err.ensures.absent in
     let more : map key_in c.insert.new.self.items ≡ insert (map key_in items) c.in-Err.place (key, tt) = ap (map key_in) c.in-Ok.ensures.items ∙ map_inserted key_in items c.in-Err.place made in
     subst (λ l. IsTrue (is_sorted key_cmp l)) (sym more) (entered_sorted (map key_in items) c.requires.order key c.in-Err.place gap)
 
@@ -26,7 +26,7 @@ returns-in-Ok-clause-set c =
     let items = c.args.entries.now.items in
     let key : CloneKey = (snap_id c.in-Some.origin, arc_value c.args.name) in
     let made : CloneName = record { origin = c.in-Some.origin; name = c.args.name } in
-    let gap : IsCloneGap (map key_in items) key c.in-Err.place = rw (← c.deref.ensures.value, ← c.deref-2.ensures, ← c.as_bytes.ensures) c.in-Err.ensures.absent in
+    let gap : IsCloneGap (map key_in items) key c.in-Err.place = rw (← c.deref.ensures.value, ← c.deref-2.ensures, ← c.as_bytes.ensures.value) c.in-Err.ensures.absent in
     let more : map key_in c.insert.new.self.items ≡ insert (map key_in items) c.in-Err.place (key, tt) = ap (map key_in) c.in-Ok.ensures.items ∙ map_inserted key_in items c.in-Err.place made in
     ap (from_sorted {R = key_cmp}) more ∙ entered_is (map key_in items) c.requires.order key c.in-Err.place gap
     ∙ ap (λ o. with_origin (set_of items) (arc_value c.args.name) (option_map snap_id o)) (sym c.in-Some.is)
@@ -36,6 +36,6 @@ pub returns-in_default-place-clause-set : goal.returns-in_default-place-clause-s
 returns-in_default-place-clause-set c =
     let items = c.args.entries.now.items in
     let key : CloneKey = (snap_id c.in-Some.origin, arc_value c.args.name) in
-    let at : IsCloneAt (map key_in items) key c.in_default-place.field-0 = rw (← c.deref.ensures.value, ← c.deref-2.ensures, ← c.as_bytes.ensures) c.in_default-place.ensures.found in
+    let at : IsCloneAt (map key_in items) key c.in_default-place.field-0 = rw (← c.deref.ensures.value, ← c.deref-2.ensures, ← c.as_bytes.ensures.value) c.in_default-place.ensures.found in
     there_is (map key_in items) c.requires.order key c.in_default-place.field-0 at
     ∙ ap (λ o. with_origin (set_of items) (arc_value c.args.name) (option_map snap_id o)) (sym c.in-Some.is)

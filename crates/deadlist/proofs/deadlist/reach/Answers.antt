@@ -1,5 +1,5 @@
 use Rattle.std.proofs.Common.{arith, ap, ◌∙◌}
-use Rattle.base.specs.Counting.{counted}
+use Rattle.base.specs.Counting.{counted, most}
 use Rattle.deadlist.proofs.Meters.{counted_none, counted_more}
 use Rattle.deadlist.proofs.deadlist.reach.Goals as goal
 
@@ -10,4 +10,8 @@ loop-i-init c =
     counted_none c.args.meter.now (omega (arith, e, small))
 
 pub loop-i-preserved : goal.loop-i-preserved
-loop-i-preserved c = c.add_one.ensures ∙ ap (λ m. counted m 1) c.loop-i.invariant ∙ counted_more c.args.meter.now c.loop-i._i 1
+loop-i-preserved c = c.add_one.ensures.metered ∙ ap (λ m. counted m 1) c.loop-i.invariant ∙ counted_more c.args.meter.now c.loop-i._i 1
+
+pub returns-clause-never_lower : goal.returns-clause-never_lower
+unfolding counted most
+returns-clause-never_lower c = omega (arith, c.loop-i.invariant, c.count-before.ensures, c.count-before.type_inv)

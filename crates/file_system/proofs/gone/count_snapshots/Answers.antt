@@ -20,8 +20,10 @@ loop-kept-preserved c =
     let reached = c.loop-kept.invariant.1 in
     let more = c.count_kept.ensures.count in
     let further = c.count_kept.ensures.meter in
+    let risen = c.loop-kept.invariant.2 in
+    let higher = c.count_kept.ensures.never_lower in
     let total = c.saturating_add-total.ensures in
-    (omega arith, omega arith)
+    (omega arith, omega arith, omega (arith, risen, higher))
 
 pub returns-clause-count : goal.returns-clause-count
 returns-clause-count c =

@@ -9,3 +9,4 @@ abbrev pub invariant-loop-kept : goal.invariant-loop-kept
 invariant-loop-kept l =
     (l.total ≡ min (2 ^ 64 - 1) (sum_by (kept_count l.asked) (map (λ (x : Bor Kept). x.now) l.yielded)))
     × (l.segments ≤ l.fn.segments + sum_by (kept_segments l.asked) (map (λ (x : Bor Kept). x.now) l.yielded))
+    × (l.fn.segments ≤ l.segments)

@@ -8,13 +8,13 @@ use Rattle.tree.specs.Reading.{key_over}
 use Rattle.images.proofs.LiveTrees.{found_live, absent_live, no_path}
 use Rattle.images.proofs.writes.path_in.Goals as goal
 
-pub returns-in-Some : goal.returns-in-Some
-returns-in-Some c l low =
+pub returns-in-Some-clause-path : goal.returns-in-Some-clause-path
+returns-in-Some-clause-path c l low =
     let is = found_live c.args.table.now.file_systems c.args.name.now c.in-Some.file_system.now (ap (λ x. option_copied x) (sym c.in-Some.is) ∙ c.find.ensures) in
     c.path.ensures.path l low ∙ ap (λ m. option_map block_of (get m (key_over c.args.leaf l))) (c.live.ensures ∙ sym is)
 
-pub returns-in-None : goal.returns-in-None
-returns-in-None c l low =
+pub returns-in-None-clause-path : goal.returns-in-None-clause-path
+returns-in-None-clause-path c l low =
     let none = absent_live c.args.table.now.file_systems c.args.name.now (ap (λ x. option_copied x) (sym c.in-None.is) ∙ c.find.ensures) in
     ap (option_map root_block) (no_path l low)
     ∙ ap (option_map block_of) (sym (ap (λ m. get m (key_over c.args.leaf l)) none ∙ get-empty key_cmp (key_over c.args.leaf l)))

@@ -21,7 +21,7 @@ bounds-lines-start c =
 pub loop-own-init : goal.loop-own-init
 loop-own-init c =
     let w = start_within c.args.table.now.file_systems c.as_bytes.result.now c.in-Some.start c.in-Some.ensures.some in
-    let is = start_named c.args.table.now.file_systems c.as_bytes.result.now c.in-Some.start c.in-Some.ensures.some ∙ c.as_bytes.ensures in
+    let is = start_named c.args.table.now.file_systems c.as_bytes.result.now c.in-Some.start c.in-Some.ensures.some ∙ c.as_bytes.ensures.value in
     record {
       way = begins (world_of c.args.table.now) c.facts.ensures.good.hierarchy c.args.lines.now c.requires.own c.requires.modest c.args.name.now c.args.here c.args.referenced
           c.requires.small c.in-Some.start c.index-lines-start.result c.amended-own.result w is c.index-lines-start.is c.amended-own.ensures;
@@ -92,7 +92,7 @@ root_charge-requires-clause-small c =
 pub returns-then-is_in_refquota-clause-ok : goal.returns-then-is_in_refquota-clause-ok
 returns-then-is_in_refquota-clause-ok c = λ new ch met.
     let w = start_within c.args.table.now.file_systems c.as_bytes.result.now c.in-Some.start c.in-Some.ensures.some in
-    let is = start_named c.args.table.now.file_systems c.as_bytes.result.now c.in-Some.start c.in-Some.ensures.some ∙ c.as_bytes.ensures in
+    let is = start_named c.args.table.now.file_systems c.as_bytes.result.now c.in-Some.start c.in-Some.ensures.some ∙ c.as_bytes.ensures.value in
     let first = begins (world_of c.args.table.now) c.facts.ensures.good.hierarchy c.args.lines.now c.requires.own c.requires.modest c.args.name.now c.args.here c.args.referenced
     c.requires.small c.in-Some.start c.index-lines-start.result c.amended-own.result w is c.index-lines-start.is c.amended-own.ensures in
     within_quotas (world_of c.args.table.now) c.facts.ensures.good.hierarchy c.args.lines.now c.requires.own c.requires.modest c.args.name.now c.args.here c.args.referenced
@@ -103,7 +103,7 @@ returns-then-is_in_refquota-clause-ok c = λ new ch met.
 pub returns-in_default-next_change-clause-err : goal.returns-in_default-next_change-clause-err
 returns-in_default-next_change-clause-err c = λ new ch met.
     let w = start_within c.args.table.now.file_systems c.as_bytes.result.now c.in-Some.start c.in-Some.ensures.some in
-    let is = start_named c.args.table.now.file_systems c.as_bytes.result.now c.in-Some.start c.in-Some.ensures.some ∙ c.as_bytes.ensures in
+    let is = start_named c.args.table.now.file_systems c.as_bytes.result.now c.in-Some.start c.in-Some.ensures.some ∙ c.as_bytes.ensures.value in
     let first = begins (world_of c.args.table.now) c.facts.ensures.good.hierarchy c.args.lines.now c.requires.own c.requires.modest c.args.name.now c.args.here c.args.referenced
     c.requires.small c.in-Some.start c.index-lines-start.result c.amended-own.result w is c.index-lines-start.is c.amended-own.ensures in
     over_refquota (world_of c.args.table.now) c.facts.ensures.good.hierarchy c.args.lines.now c.requires.own c.requires.modest c.args.name.now c.args.here c.args.referenced

@@ -30,7 +30,7 @@ settle_from-requires-clause-can c =
     let own = c.requires.own in
     can_settle (keys m) c.args.lines.now c.requires.modest own.0 own.1 c.args.name.now c.in-Some.start
     (start_within m c.as_bytes.result.now c.in-Some.start c.in-Some.ensures.some)
-    (start_named m c.as_bytes.result.now c.in-Some.start c.in-Some.ensures.some ∙ c.as_bytes.ensures)
+    (start_named m c.as_bytes.result.now c.in-Some.start c.in-Some.ensures.some ∙ c.as_bytes.ensures.value)
     c.args.here c.args.referenced c.requires.small c.index-lines-start.result c.amended-line.result c.index-lines-start.is (c.amended-line.ensures ∙ ap (λ m. amended m c.args.here c.args.referenced) (sym c.index-lines-start.is))
 
 pub settle_from-requires-clause-little : goal.settle_from-requires-clause-little
@@ -43,5 +43,5 @@ returns-clause-own c = λ old new of ch.
     let m = c.args.table.now.file_systems in
     c.settle_from.ensures.own new (settles (keys m) c.args.lines.now c.requires.modest old of c.args.name.now c.in-Some.start
     (start_within m c.as_bytes.result.now c.in-Some.start c.in-Some.ensures.some)
-    (start_named m c.as_bytes.result.now c.in-Some.start c.in-Some.ensures.some ∙ c.as_bytes.ensures)
+    (start_named m c.as_bytes.result.now c.in-Some.start c.in-Some.ensures.some ∙ c.as_bytes.ensures.value)
     c.args.here c.args.referenced c.requires.small c.index-lines-start.result c.amended-line.result c.index-lines-start.is (c.amended-line.ensures ∙ ap (λ m. amended m c.args.here c.args.referenced) (sym c.index-lines-start.is)) new ch)

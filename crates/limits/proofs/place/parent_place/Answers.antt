@@ -12,7 +12,7 @@ bounds-file_systems-place c = row_within c.args.table.now.file_systems c.file_sy
 
 pub returns-in_err-parent-clause-none : goal.returns-in_err-parent-clause-none
 returns-in_err-parent-clause-none c =
-    let named = c.as_bytes.ensures ∙ c.name.ensures ∙ ap (λ (r : Row). r.name) c.deref.ensures
+    let named = c.as_bytes.ensures.value ∙ c.name.ensures ∙ ap (λ (r : Row). r.name) c.deref.ensures
     ∙ name_at c.args.table.now.file_systems c.file_systems.result.now c.file_systems.ensures c.args.place c.index-file_systems-place.result c.requires c.index-file_systems-place.is in
     let none : parent_name (get_or (keys c.args.table.now.file_systems) c.args.place []) ≡ None =
     ap parent_name (sym named) ∙ sym c.parent_of.ensures ∙ ap (λ x. option_copied x) c.in_err-parent.was in
@@ -20,7 +20,7 @@ returns-in_err-parent-clause-none c =
 
 pub returns-clause-some : goal.returns-clause-some
 returns-clause-some c =
-    let named = c.as_bytes.ensures ∙ c.name.ensures ∙ ap (λ (r : Row). r.name) c.deref.ensures
+    let named = c.as_bytes.ensures.value ∙ c.name.ensures ∙ ap (λ (r : Row). r.name) c.deref.ensures
     ∙ name_at c.args.table.now.file_systems c.file_systems.result.now c.file_systems.ensures c.args.place c.index-file_systems-place.result c.requires c.index-file_systems-place.is in
     (parent_found c.args.table.now.file_systems c.facts.ensures.good.hierarchy c.args.place c.requires c.in_ok-parent.parent.now
     (ap parent_name (sym named) ∙ sym c.parent_of.ensures ∙ ap (λ x. option_copied x) c.in_ok-parent.was)
@@ -28,7 +28,7 @@ returns-clause-some c =
 
 pub returns-clause-none : goal.returns-clause-none
 returns-clause-none c =
-    let named = c.as_bytes.ensures ∙ c.name.ensures ∙ ap (λ (r : Row). r.name) c.deref.ensures
+    let named = c.as_bytes.ensures.value ∙ c.name.ensures ∙ ap (λ (r : Row). r.name) c.deref.ensures
     ∙ name_at c.args.table.now.file_systems c.file_systems.result.now c.file_systems.ensures c.args.place c.index-file_systems-place.result c.requires c.index-file_systems-place.is in
     (parent_found c.args.table.now.file_systems c.facts.ensures.good.hierarchy c.args.place c.requires c.in_ok-parent.parent.now
     (ap parent_name (sym named) ∙ sym c.parent_of.ensures ∙ ap (λ x. option_copied x) c.in_ok-parent.was)

@@ -9,5 +9,5 @@ use Rattle.lookups.proofs.names.push_snapshots.Goals as goal
 pub returns-clause-ok : goal.returns-clause-ok
 returns-clause-ok c =
     let all = yielded_all left c.into_iter-kept-iterator.result c.loop-kept.yielded c.loop-kept.kept-iterator c.loop-kept.yielded_by c.in-None.ensures.steps.0 in
-    snapshots_are c.args.names.now.items _ c.as_bytes-name.result.now (entry_of c.args.file_system.now) c.loop-kept.yielded (c.as_bytes-name.ensures ∙ c.name.ensures)
+    snapshots_are c.args.names.now.items _ c.as_bytes-name.result.now (entry_of c.args.file_system.now) c.loop-kept.yielded (c.as_bytes-name.ensures.value ∙ c.name.ensures)
     (sym c.snapshots.ensures ∙ ap snaps_in (sym c.iter-kept-items.ensures ∙ ap left (sym c.into_iter-kept-iterator.ensures.into_iter_gives) ∙ all)) c.loop-kept.invariant

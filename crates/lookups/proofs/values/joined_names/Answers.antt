@@ -8,7 +8,7 @@ use Rattle.lookups.proofs.values.joined_names.Goals as goal
 
 pub loop-clone-init : goal.loop-clone-init
 loop-clone-init c =
-    let text = c.in_ok-extend_from_slice.ensures.items ∙ (λ i. c.new-text.ensures.items i ++ (c.as_bytes.ensures ∙ c.name.ensures) i) in
+    let text = c.in_ok-extend_from_slice.ensures.items ∙ (λ i. c.new-text.ensures.items i ++ (c.as_bytes.ensures.value ∙ c.name.ensures) i) in
     ap (λ xs. xs ++ each_after 44 (map name_of c.in-Some.others.now)) text
     ∙ joined_first 44 (name_of c.in-Some.first.now) (map name_of c.in-Some.others.now)
     ∙ ap (λ (xs : List CloneName). join_with_byte 44 (map name_of xs)) (sym c.in-Some.ensures.cases.0)
@@ -25,4 +25,4 @@ loop-clone-preserved c =
     joined_next 44 c.loop-clone.text.items (name_of c.clone-item.result) c.extend_from_slice-in-loop-clone.new.self.items (join_with_byte 44 (map name_of c.args.clones.now))
     (map name_of (drop c.loop-clone.clone-index c.in-Some.others.now)) (map name_of (drop (c.loop-clone.clone-index + 1) c.in-Some.others.now))
     c.loop-clone.invariant (ap (map name_of) left)
-    (c.in_ok-extend_from_slice-2.ensures.items ∙ (λ i. c.in_ok-push.ensures.items i ++ (c.as_bytes-in-loop-clone.ensures ∙ c.name-in-loop-clone.ensures) i))
+    (c.in_ok-extend_from_slice-2.ensures.items ∙ (λ i. c.in_ok-push.ensures.items i ++ (c.as_bytes-in-loop-clone.ensures.value ∙ c.name-in-loop-clone.ensures) i))

@@ -10,11 +10,11 @@ use Rattle.pool.proofs.pool.in_place.Goals as goal
 
 pub returns-in-Ok-clause-metered : goal.returns-in-Ok-clause-metered
 returns-in-Ok-clause-metered c =
-    changed (shown_in c.args.keep.now c.args.world.now c.args.meters.now) c.args.request.now _ _ (no_question (kind_of c.args.request.now) c.requires.kind) c.perform.ensures.nodes c.perform.ensures.segments
+    changed (shown_in c.args.keep.now c.args.world.now c.args.meters.now) c.args.request.now _ _ (no_question (kind_of c.args.request.now) c.requires.kind) c.perform.ensures.nodes c.perform.ensures.segments c.perform.ensures.never_lower c.perform.ensures.segments_never_lower
 
 pub returns-in-Err-clause-metered : goal.returns-in-Err-clause-metered
 returns-in-Err-clause-metered c =
-    changed (shown_in c.args.keep.now c.args.world.now c.args.meters.now) c.args.request.now _ _ (no_question (kind_of c.args.request.now) c.requires.kind) c.perform.ensures.nodes c.perform.ensures.segments
+    changed (shown_in c.args.keep.now c.args.world.now c.args.meters.now) c.args.request.now _ _ (no_question (kind_of c.args.request.now) c.requires.kind) c.perform.ensures.nodes c.perform.ensures.segments c.perform.ensures.never_lower c.perform.ensures.segments_never_lower
 
 pub returns-in-Ok-clause-held : goal.returns-in-Ok-clause-held
 returns-in-Ok-clause-held c =

@@ -16,6 +16,7 @@ loop-left-init c =
       stage = init_stage value c.args.table.now c.facts.ensures.good c.args.name.now c.requires.inside c.in_ok-rows.rows.items c.in_ok-rows.ensures.ok c.in_ok-rows.ensures.rising
           c.len-left.result count c.args.edit.now.to c.requires.same;
       lost = lost_none c.args.edit.now.to c.args.edit.now.freeing c.requires.apart;
+      never_lower = omega arith;
     }
 
 pub empty_one-requires-clause-there : goal.empty_one-requires-clause-there
@@ -35,6 +36,7 @@ loop-left-preserved c = record {
       c.loop-left.left c.loop-left-test.true c.loop-left.invariant.within c.index.result.now c.index.ensures c.loop-left.edit.to c.loop-left.invariant.stage c.empty_one.new.edit.to c.in_ok-empty_one.ensures.ok;
   lost = lost_then c.args.edit.now.to c.loop-left.edit.to c.empty_one.new.edit.to c.args.edit.now.freeing c.loop-left.edit.freeing c.empty_one.new.edit.freeing
       c.loop-left.invariant.lost c.in_ok-empty_one.ensures.lost;
+  never_lower = omega (arith, c.loop-left.invariant.never_lower, c.in_ok-empty_one.ensures.never_lower);
 }
 
 pub returns-clause-ok : goal.returns-clause-ok

@@ -10,6 +10,7 @@ invariant-loop-left l = record {
   within : l.left ≤ length l.rows.items;
   stage : IsStage l.table l.name l.edit.to (map (λ (x : Bor Row). entry_of x.now) (drop l.left l.rows.items));
   lost : HasLost l.initial.edit.to l.initial.edit.freeing l.edit.to l.edit.freeing;
+  never_lower : l.fn.segments ≤ l.segments;
 }
 
 abbrev pub decreases-loop-left : goal.decreases-loop-left

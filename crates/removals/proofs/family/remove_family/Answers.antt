@@ -19,7 +19,7 @@ loop-left-init c = record {
 
 pub remove_file_system-requires-clause-can : goal.remove_file_system-requires-clause-can
 remove_file_system-requires-clause-can c =
-    let within = (λ i. is_in_family (sym c.as_bytes.ensures i) (sym (c.as_bytes-in-loop-left.ensures ∙ c.name.ensures) i)) ∙ sym c.is_in_family.ensures ∙ c.if-is_in_family.true in
+    let within = (λ i. is_in_family (sym c.as_bytes.ensures.value i) (sym (c.as_bytes-in-loop-left.ensures.value ∙ c.name.ensures) i)) ∙ sym c.is_in_family.ensures ∙ c.if-is_in_family.true in
     subst (CanRemoveFileSystem c.loop-left.edit.to) (sym c.name-then-is_in_family.ensures)
     (can entry_in c.args.table.now c.args.name.now c.file_systems-rows.result.now (shared_are c.args.table.now.file_systems c.file_systems-rows.result.now c.file_systems-rows.ensures) c.loop-left.left c.loop-left-test.true c.loop-left.invariant.within
     c.index-rows-left.result c.index-rows-left.is (entry_of c.deref-file_system.result.now) (ap entry_of c.deref-file_system.ensures) c.loop-left.edit.to c.loop-left.invariant.so_far within c.requires.not_root c.requires.bare)
@@ -28,7 +28,7 @@ pub loop-left-preserved-in-Continue-1 : goal.loop-left-preserved-in-Continue-1
 loop-left-preserved-in-Continue-1 c = record {
   within = let l = c.loop-left.invariant.within in omega (arith, l);
   so_far =
-      let within = (λ i. is_in_family (sym c.as_bytes.ensures i) (sym (c.as_bytes-in-loop-left.ensures ∙ c.name.ensures) i)) ∙ sym c.is_in_family.ensures ∙ c.if-is_in_family.true in
+      let within = (λ i. is_in_family (sym c.as_bytes.ensures.value i) (sym (c.as_bytes-in-loop-left.ensures.value ∙ c.name.ensures) i)) ∙ sym c.is_in_family.ensures ∙ c.if-is_in_family.true in
       goes entry_in c.args.table.now c.args.name.now c.file_systems-rows.result.now (shared_are c.args.table.now.file_systems c.file_systems-rows.result.now c.file_systems-rows.ensures) c.loop-left.left c.loop-left-test.true c.loop-left.invariant.within
       c.index-rows-left.result c.index-rows-left.is (entry_of c.deref-file_system.result.now) (ap entry_of c.deref-file_system.ensures) c.loop-left.edit.to c.loop-left.invariant.so_far within
       c.remove_file_system.new.table (c.in_ok-remove_file_system.ensures.ok ∙ ap (without_system c.loop-left.edit.to) c.name-then-is_in_family.ensures);
@@ -40,7 +40,7 @@ pub loop-left-preserved : goal.loop-left-preserved
 loop-left-preserved c = record {
   within = let l = c.loop-left.invariant.within in omega (arith, l);
   so_far =
-      let out = (λ i. is_in_family (sym c.as_bytes.ensures i) (sym (c.as_bytes-in-loop-left.ensures ∙ c.name.ensures) i)) ∙ sym c.is_in_family.ensures ∙ c.if-is_in_family.false in
+      let out = (λ i. is_in_family (sym c.as_bytes.ensures.value i) (sym (c.as_bytes-in-loop-left.ensures.value ∙ c.name.ensures) i)) ∙ sym c.is_in_family.ensures ∙ c.if-is_in_family.false in
       stays entry_in c.args.table.now c.args.name.now c.file_systems-rows.result.now (shared_are c.args.table.now.file_systems c.file_systems-rows.result.now c.file_systems-rows.ensures) c.loop-left.left c.loop-left-test.true c.loop-left.invariant.within
       c.index-rows-left.result c.index-rows-left.is (entry_of c.deref-file_system.result.now) (ap entry_of c.deref-file_system.ensures) c.loop-left.edit.to c.loop-left.invariant.so_far out;
   lost = c.loop-left.invariant.lost;

@@ -11,6 +11,7 @@ pub loop-file_system-init : goal.loop-file_system-init
 loop-file_system-init c = record {
   so_far = ap (without_origins c.args.edit.now.to c.args.views.now.opened) (shared_are c.args.table.now.file_systems c.file_systems-file_system-items.result.now c.file_systems-file_system-items.ensures);
   lost = lost_none c.args.edit.now.to c.args.edit.now.freeing c.requires.apart;
+  never_lower = omega arith;
 }
 
 pub loop-file_system-preserved : goal.loop-file_system-preserved
@@ -24,6 +25,7 @@ loop-file_system-preserved c =
           ∙ c.loop-file_system.invariant.so_far;
       lost = lost_then c.args.edit.now.to c.loop-file_system.edit.to c.remove_unneeded_origin.new.edit.to c.args.edit.now.freeing c.loop-file_system.edit.freeing c.remove_unneeded_origin.new.edit.freeing
           c.loop-file_system.invariant.lost c.in_ok-remove_unneeded_origin.ensures.lost;
+      never_lower = omega (arith, c.loop-file_system.invariant.never_lower, c.in_ok-remove_unneeded_origin.ensures.never_lower);
     }
 
 pub returns-clause-ok : goal.returns-clause-ok

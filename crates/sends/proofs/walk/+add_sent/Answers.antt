@@ -25,7 +25,7 @@ pub loop-place-init : goal.loop-place-init
 loop-place-init t c =
     let at : IsAt c.args.key c.in-Some.top = at_some _ _ _ c.in-Some.is c.requires.there in
     let level = ap (λ x. x.level) at.key in
-    none_before c.args.since.0 c.in-Some.top c.args.records.now.items (omega (arith, level, c.if-key-eq0.false))
+    (none_before c.args.since.0 c.in-Some.top c.args.records.now.items (omega (arith, level, c.if-key-eq0.false)), omega (arith, c.is_young.ensures.never_lower))
 
 pub overflow_mul-child : goal.overflow_mul-child
 overflow_mul-child t c =
@@ -51,8 +51,10 @@ loop-place-preserved t c =
     let more : AddsSent c.args.since.0 (child_key c.args.key c.loop-place.place) c.in_ok-child.field-0 c.loop-place.records.items c.add_sent.new.records.items = c.in_ok-add_sent.ensures.ok in
     let are : AreSent c.args.since.0 (child_key c.in-Some.top.key c.loop-place.place) (child_of c.in-Some.top c.loop-place.place) more.sent =
     subst (λ k. AreSent c.args.since.0 (child_key k c.loop-place.place) (child_of c.in-Some.top c.loop-place.place) more.sent) (sym at.key)
-    (subst (λ o. AreSent c.args.since.0 (child_key c.args.key c.loop-place.place) o more.sent) c.in_ok-child.ensures.ok more.are) in
-    one_more c.args.since.0 c.in-Some.top c.loop-place.place c.args.records.now.items c.loop-place.records.items c.add_sent.new.records.items c.loop-place.invariant more.sent more.is are
+    (subst (λ o. AreSent c.args.since.0 (child_key c.args.key c.loop-place.place) o more.sent) c.in_ok-child.ensures.ok more.are) in (
+      one_more c.args.since.0 c.in-Some.top c.loop-place.place c.args.records.now.items c.loop-place.records.items c.add_sent.new.records.items c.loop-place.invariant.0 more.sent more.is are,
+      omega (arith, c.loop-place.invariant.1, c.in_ok-child.ensures.never_lower, c.in_ok-add_sent.ensures.never_lower),
+    )
 
 pub returns-clause-ok : goal.returns-clause-ok
 returns-clause-ok t c =
@@ -61,4 +63,4 @@ returns-clause-ok t c =
     let last : c.loop-place.place ≡ 16 = omega arith in
     subst (λ o. AddsSent c.args.since.0 c.args.key o c.args.records.now.items c.loop-place.records.items) (sym c.in-Some.is)
     (all_places c.args.since.0 c.in-Some.top young c.args.key c.args.records.now.items c.loop-place.records.items at.key (omega (arith, c.if-key-eq0.false))
-    (subst (λ n. AddsBefore c.args.since.0 c.in-Some.top n c.args.records.now.items c.loop-place.records.items) last c.loop-place.invariant))
+    (subst (λ n. AddsBefore c.args.since.0 c.in-Some.top n c.args.records.now.items c.loop-place.records.items) last c.loop-place.invariant.0))

@@ -14,14 +14,14 @@ loop-name-init c = sym (twice_first c.args.all.now) ∙ ap (λ ks. twice_after k
 
 pub returns-then-not-branch-clause-ok : goal.returns-then-not-branch-clause-ok
 returns-then-not-branch-clause-ok c =
-    let key_is : c.as_bytes.result.now ≡ c.name-item.result.file_system = c.as_bytes.ensures ∙ ap (λ (m : Member). m.file_system) c.name.view_is in
+    let key_is : c.as_bytes.result.now ≡ c.name-item.result.file_system = c.as_bytes.ensures.value ∙ ap (λ (m : Member). m.file_system) c.name.view_is in
     let seen = not-false (has_name c.loop-name.seen.keys c.as_bytes.result.now) (sym c.in_ok-insert.ensures.added ∙ c.if-not-branch.true) in
     sym (c.loop-name.invariant ∙ ap (twice_after c.loop-name.seen.keys) (next_left c.args.all.now c.loop-name.name-index c.name-item.result c.loop-name-test.true c.name-item.is)
     ∙ twice_here c.loop-name.seen.keys c.name-item.result (drop (c.loop-name.name-index + 1) c.args.all.now) (ap (has_name c.loop-name.seen.keys) (sym key_is) ∙ seen))
 
 pub loop-name-preserved : goal.loop-name-preserved
 loop-name-preserved c =
-    let key_is : c.as_bytes.result.now ≡ c.name-item.result.file_system = c.as_bytes.ensures ∙ ap (λ (m : Member). m.file_system) c.name.view_is in
+    let key_is : c.as_bytes.result.now ≡ c.name-item.result.file_system = c.as_bytes.ensures.value ∙ ap (λ (m : Member). m.file_system) c.name.view_is in
     let unseen = not-true (has_name c.loop-name.seen.keys c.as_bytes.result.now) (sym c.in_ok-insert.ensures.added ∙ c.if-not-branch.false) in
     c.loop-name.invariant ∙ ap (twice_after c.loop-name.seen.keys) (next_left c.args.all.now c.loop-name.name-index c.name-item.result c.loop-name-test.true c.name-item.is)
     ∙ twice_later c.loop-name.seen.keys c.as_bytes.result c.name-item.result (drop (c.loop-name.name-index + 1) c.args.all.now) key_is (ap (has_name c.loop-name.seen.keys) (sym key_is) ∙ unseen)

@@ -10,7 +10,7 @@ pub loop-file_system-preserved : goal.loop-file_system-preserved
 loop-file_system-preserved c =
     let left = ap (map arc_value) (next_left c.args.file_systems.now c.loop-file_system.file_system-index c.file_system-item.result c.loop-file_system-test.true c.file_system-item.is) in
     let tested : c.is_in_family.result ≡ is_in_family c.args.name.now.file_system (arc_value c.file_system-item.result).name =
-    c.is_in_family.ensures ∙ (λ j. is_in_family (c.as_bytes.ensures j) ((c.as_bytes-in-loop-file_system.ensures ∙ c.name.ensures ∙ ap (λ v. v.name) c.deref.ensures) j)) in
+    c.is_in_family.ensures ∙ (λ j. is_in_family (c.as_bytes.ensures.value j) ((c.as_bytes-in-loop-file_system.ensures.value ∙ c.name.ensures ∙ ap (λ v. v.name) c.deref.ensures) j)) in
     elim c.if-is_in_family.branch [
       | then-is_in_family+in_ok-push w ↦ with_member c.args.name.now _ _ _ left _ _ c.loop-file_system.invariant (sym tested ∙ w.if-is_in_family.true) c.if-is_in_family.all.items _ (ap (λ v. v.items) w.all-is ∙ w.in_ok-push.ensures.items)
           (λ j. record { file_system = (w.name-then-is_in_family.ensures ∙ ap (λ v. v.name) w.deref-then-is_in_family.ensures) j; component = c.args.name.now.component })

@@ -21,7 +21,7 @@ invariant_of-self c =
     let items = c.self.inside.entries.items in
     let key : CloneKey = (snap_id c.in-Some.origin, arc_value c.args.name.now) in
     let made : CloneName = record { origin = c.in-Some.origin; name = c.in_ok-name.name } in
-    let gap : IsCloneGap (map key_in items) key c.in-Err.place = rw (← c.deref.ensures.value, ← c.deref-2.ensures, ← c.as_bytes.ensures) c.in-Err.ensures.absent in
+    let gap : IsCloneGap (map key_in items) key c.in-Err.place = rw (← c.deref.ensures.value, ← c.deref-2.ensures, ← c.as_bytes.ensures.value) c.in-Err.ensures.absent in
     let more : map key_in (insert items c.in-Err.place made) ≡ insert (map key_in items) c.in-Err.place (key, tt) =
     map_inserted key_in items c.in-Err.place made ∙ ap (λ (n : List ℕ). insert (map key_in items) c.in-Err.place ((snap_id c.in-Some.origin, n), tt)) c.in_ok-name.ensures in
     either (is_ok c.insert.result) c.insert.new.self.items (insert items c.in-Err.place made) items c.insert.ensures.items
@@ -32,7 +32,7 @@ returns-in_ok-insert-clause-ok c =
     let items = c.self.inside.entries.items in
     let key : CloneKey = (snap_id c.in-Some.origin, arc_value c.args.name.now) in
     let made : CloneName = record { origin = c.in-Some.origin; name = c.in_ok-name.name } in
-    let gap : IsCloneGap (map key_in items) key c.in-Err.place = rw (← c.deref.ensures.value, ← c.deref-2.ensures, ← c.as_bytes.ensures) c.in-Err.ensures.absent in
+    let gap : IsCloneGap (map key_in items) key c.in-Err.place = rw (← c.deref.ensures.value, ← c.deref-2.ensures, ← c.as_bytes.ensures.value) c.in-Err.ensures.absent in
     let more : map key_in (insert items c.in-Err.place made) ≡ insert (map key_in items) c.in-Err.place (key, tt) =
     map_inserted key_in items c.in-Err.place made ∙ ap (λ (n : List ℕ). insert (map key_in items) c.in-Err.place ((snap_id c.in-Some.origin, n), tt)) c.in_ok-name.ensures in
     ap (λ l. from_sorted {R = key_cmp} (map key_in l)) c.in_ok-insert.ensures.items ∙ ap (from_sorted {R = key_cmp}) more
@@ -44,6 +44,6 @@ pub returns-in_default-place-clause-ok : goal.returns-in_default-place-clause-ok
 returns-in_default-place-clause-ok c =
     let items = c.self.inside.entries.items in
     let key : CloneKey = (snap_id c.in-Some.origin, arc_value c.args.name.now) in
-    let at : IsCloneAt (map key_in items) key c.in_default-place.field-0 = rw (← c.deref.ensures.value, ← c.deref-2.ensures, ← c.as_bytes.ensures) c.in_default-place.ensures.found in
+    let at : IsCloneAt (map key_in items) key c.in_default-place.field-0 = rw (← c.deref.ensures.value, ← c.deref-2.ensures, ← c.as_bytes.ensures.value) c.in_default-place.ensures.found in
     sym c.self.view_is ∙ there_is (map key_in items) c.self.invariant key c.in_default-place.field-0 at ∙ ap (λ (s : CloneSet). with_key s key) c.self.view_is
     ∙ ap (λ o. with_origin c.args.self.now (arc_value c.args.name.now) (option_map snap_id o)) (sym c.in-Some.is)

@@ -30,7 +30,7 @@ invariant_of-self-2 c =
     let items = c.self.inside.rows.items in
     let rows = map entry_in items in
     let row = c.args.file_system in
-    let gap : IsGapFor rows row.name c.gap-place.result = rw (← c.deref.ensures.value, ← c.name.ensures, ← c.as_bytes.ensures) c.gap-place.ensures in
+    let gap : IsGapFor rows row.name c.gap-place.result = rw (← c.deref.ensures.value, ← c.name.ensures, ← c.as_bytes.ensures.value) c.gap-place.ensures in
     let made_rows : map arc_value c.put.new.rows.items ≡ insert (map arc_value items) c.gap-place.result row =
     ap (map arc_value) (c.put.ensures ∙ ap (λ l. insert l c.gap-place.result c.in_ok-added.added) c.in_ok-reserve.ensures.items)
     ∙ map_inserted arc_value items c.gap-place.result c.in_ok-added.added ∙ ap (insert (map arc_value items) c.gap-place.result) c.in_ok-added.ensures.ok in
@@ -58,7 +58,7 @@ returns-clause-ok c =
     let items = c.self.inside.rows.items in
     let rows = map entry_in items in
     let row = c.args.file_system in
-    let gap : IsGapFor rows row.name c.gap-place.result = rw (← c.deref.ensures.value, ← c.name.ensures, ← c.as_bytes.ensures) c.gap-place.ensures in
+    let gap : IsGapFor rows row.name c.gap-place.result = rw (← c.deref.ensures.value, ← c.name.ensures, ← c.as_bytes.ensures.value) c.gap-place.ensures in
     let made_rows : map arc_value c.put.new.rows.items ≡ insert (map arc_value items) c.gap-place.result row =
     ap (map arc_value) (c.put.ensures ∙ ap (λ l. insert l c.gap-place.result c.in_ok-added.added) c.in_ok-reserve.ensures.items)
     ∙ map_inserted arc_value items c.gap-place.result c.in_ok-added.added ∙ ap (insert (map arc_value items) c.gap-place.result) c.in_ok-added.ensures.ok in

@@ -40,12 +40,12 @@ other_refusal r only is = neither (subst (λ (x : Result Changed Refusal). IfErr
 
 pub returns-in_default-clause-no_dataset : goal.returns-in_default-clause-no_dataset
 returns-in_default-clause-no_dataset c =
-    let gap : IsGapFor (map entry_in c.self.inside.rows.items) c.args.name.now c.in_default.field-0 = rw (← c.deref.ensures.value, ← c.as_bytes.ensures) c.in_default.ensures.absent in
+    let gap : IsGapFor (map entry_in c.self.inside.rows.items) c.args.name.now c.in_default.field-0 = rw (← c.deref.ensures.value, ← c.as_bytes.ensures.value) c.in_default.ensures.absent in
     (λ _. rw (← c.self.view_is) (get_gap _ c.self.invariant.sorted c.args.name.now c.in_default.field-0 gap), λ _. refl)
 
 pub apply-requires-clause-allowed : goal.apply-requires-clause-allowed
 apply-requires-clause-allowed c =
-    let at : IsAt (map entry_in c.self.inside.rows.items) c.args.name.now c.in-Ok.place = rw (← c.deref.ensures.value, ← c.as_bytes.ensures) c.in-Ok.ensures.found in
+    let at : IsAt (map entry_in c.self.inside.rows.items) c.args.name.now c.in-Ok.place = rw (← c.deref.ensures.value, ← c.as_bytes.ensures.value) c.in-Ok.ensures.found in
     let is = row_of entry_in c.self.inside.rows.items c.in-Ok.place c.index_mut.result.now c.index_mut.ensures.value in
     let live = ap (λ m. live_of m c.args.name.now) (sym c.self.view_is) ∙ live_is _ c.self.invariant.sorted c.args.name.now c.in-Ok.place at (entry_in c.index_mut.result.now) is in
     let snaps = ap (λ m. snaps_at m c.args.name.now) (sym c.self.view_is) ∙ snaps_are _ c.self.invariant.sorted c.args.name.now c.in-Ok.place at (entry_in c.index_mut.result.now) is in
@@ -60,27 +60,27 @@ apply-requires-clause-allowed c =
 
 pub apply-requires-clause-above : goal.apply-requires-clause-above
 apply-requires-clause-above c =
-    let at : IsAt (map entry_in c.self.inside.rows.items) c.args.name.now c.in-Ok.place = rw (← c.deref.ensures.value, ← c.as_bytes.ensures) c.in-Ok.ensures.found in
+    let at : IsAt (map entry_in c.self.inside.rows.items) c.args.name.now c.in-Ok.place = rw (← c.deref.ensures.value, ← c.as_bytes.ensures.value) c.in-Ok.ensures.found in
     subst (λ (r : Row). AreAbove r.below r.system) (sym c.in_ok-file_system.ensures.value)
     (stands_above c.self.inside c.self.invariant c.args.self.now c.self.view_is c.args.name.now c.in-Ok.place at c.index_mut.result.now c.index_mut.ensures.value c.requires.above)
 
 -- where memory was refused the rows are the same
 pub invariant_of-self : goal.invariant_of-self
 invariant_of-self c =
-    let at : IsAt (map entry_in c.self.inside.rows.items) c.args.name.now c.in-Ok.place = rw (← c.deref.ensures.value, ← c.as_bytes.ensures) c.in-Ok.ensures.found in
+    let at : IsAt (map entry_in c.self.inside.rows.items) c.args.name.now c.in-Ok.place = rw (← c.deref.ensures.value, ← c.as_bytes.ensures.value) c.in-Ok.ensures.found in
     same_sorted c.self.inside c.self.invariant c.args.self.now c.self.view_is c.args.name.now c.in-Ok.place at c.index_mut.result.now c.index_mut.ensures.value
     c.own.follows.lender-at-none (not_lent c.own.result _ c.in_err-file_system.was c.own.follows.holds-at-none) _ refl refl refl
 
 pub returns-in_err-file_system-clause-err : goal.returns-in_err-file_system-clause-err
 returns-in_err-file_system-clause-err c =
-    let at : IsAt (map entry_in c.self.inside.rows.items) c.args.name.now c.in-Ok.place = rw (← c.deref.ensures.value, ← c.as_bytes.ensures) c.in-Ok.ensures.found in
+    let at : IsAt (map entry_in c.self.inside.rows.items) c.args.name.now c.in-Ok.place = rw (← c.deref.ensures.value, ← c.as_bytes.ensures.value) c.in-Ok.ensures.found in
     Rows.on_err c.from_residual.result
     (same_is c.self.inside c.self.invariant c.args.self.now c.self.view_is c.args.name.now c.in-Ok.place at c.index_mut.result.now c.index_mut.ensures.value
     c.own.follows.lender-at-none (not_lent c.own.result _ c.in_err-file_system.was c.own.follows.holds-at-none))
 
 pub returns-in_err-file_system-clause-no_dataset : goal.returns-in_err-file_system-clause-no_dataset
 returns-in_err-file_system-clause-no_dataset c =
-    let at : IsAt (map entry_in c.self.inside.rows.items) c.args.name.now c.in-Ok.place = rw (← c.deref.ensures.value, ← c.as_bytes.ensures) c.in-Ok.ensures.found in
+    let at : IsAt (map entry_in c.self.inside.rows.items) c.args.name.now c.in-Ok.place = rw (← c.deref.ensures.value, ← c.as_bytes.ensures.value) c.in-Ok.ensures.found in
     let is = row_of entry_in c.self.inside.rows.items c.in-Ok.place c.index_mut.result.now c.index_mut.ensures.value in
     let there = is_there _ c.self.invariant.sorted c.args.name.now c.in-Ok.place at (entry_in c.index_mut.result.now) is in (
       λ e. absurd (not_missing c.from_residual.result _ c.from_residual.ensures.1 c.in_err-file_system.ensures.only e),
@@ -90,14 +90,14 @@ returns-in_err-file_system-clause-no_dataset c =
 -- the row has another live map
 pub invariant_of-self-2 : goal.invariant_of-self-2
 invariant_of-self-2 c =
-    let at : IsAt (map entry_in c.self.inside.rows.items) c.args.name.now c.in-Ok.place = rw (← c.deref.ensures.value, ← c.as_bytes.ensures) c.in-Ok.ensures.found in
+    let at : IsAt (map entry_in c.self.inside.rows.items) c.args.name.now c.in-Ok.place = rw (← c.deref.ensures.value, ← c.as_bytes.ensures.value) c.in-Ok.ensures.found in
     labelled_sorted c.self.inside c.self.invariant c.args.self.now c.self.view_is c.args.name.now c.in-Ok.place at c.index_mut.result.now c.index_mut.ensures.value
     (λ f. record f { live = c.apply.new.self.system.live }) (record { origin = refl; count = refl; found = λ id. refl }) (c.own.follows.lender c.apply.new.self)
     (lent c.own.result _ c.in_ok-file_system.was (c.own.follows.holds c.apply.new.self) ∙ c.apply.ensures.others ∙ ap (λ (r : Row). with_system r (record r.system { live = c.apply.new.self.system.live })) c.in_ok-file_system.ensures.value) _ refl refl refl
 
 pub returns-clause-ok : goal.returns-clause-ok
 returns-clause-ok c =
-    let at : IsAt (map entry_in c.self.inside.rows.items) c.args.name.now c.in-Ok.place = rw (← c.deref.ensures.value, ← c.as_bytes.ensures) c.in-Ok.ensures.found in
+    let at : IsAt (map entry_in c.self.inside.rows.items) c.args.name.now c.in-Ok.place = rw (← c.deref.ensures.value, ← c.as_bytes.ensures.value) c.in-Ok.ensures.found in
     let is = row_of entry_in c.self.inside.rows.items c.in-Ok.place c.index_mut.result.now c.index_mut.ensures.value in
     let kept = ap (λ (r : Row). r.system.live) (lent c.own.result _ c.in_ok-file_system.was (c.own.follows.holds c.apply.new.self)) in
     let alone = ap entry_of (lent c.own.result _ c.in_ok-file_system.was (c.own.follows.holds c.apply.new.self) ∙ c.apply.ensures.others ∙ ap (λ (r : Row). with_system r (record r.system { live = c.apply.new.self.system.live })) c.in_ok-file_system.ensures.value ∙ ap (λ (m : Map). with_system (arc_value c.index_mut.result.now) (record (arc_value c.index_mut.result.now).system { live = m })) (sym kept)) in
@@ -109,7 +109,7 @@ returns-clause-ok c =
 
 pub returns-clause-others : goal.returns-clause-others
 returns-clause-others c =
-    let at : IsAt (map entry_in c.self.inside.rows.items) c.args.name.now c.in-Ok.place = rw (← c.deref.ensures.value, ← c.as_bytes.ensures) c.in-Ok.ensures.found in
+    let at : IsAt (map entry_in c.self.inside.rows.items) c.args.name.now c.in-Ok.place = rw (← c.deref.ensures.value, ← c.as_bytes.ensures.value) c.in-Ok.ensures.found in
     let is = row_of entry_in c.self.inside.rows.items c.in-Ok.place c.index_mut.result.now c.index_mut.ensures.value in
     let kept = ap (λ (r : Row). r.system.live) (lent c.own.result _ c.in_ok-file_system.was (c.own.follows.holds c.apply.new.self)) in
     let alone = ap entry_of (lent c.own.result _ c.in_ok-file_system.was (c.own.follows.holds c.apply.new.self) ∙ c.apply.ensures.others ∙ ap (λ (r : Row). with_system r (record r.system { live = c.apply.new.self.system.live })) c.in_ok-file_system.ensures.value ∙ ap (λ (m : Map). with_system (arc_value c.index_mut.result.now) (record (arc_value c.index_mut.result.now).system { live = m })) (sym kept)) in
@@ -118,13 +118,13 @@ returns-clause-others c =
 
 pub returns-clause-err : goal.returns-clause-err
 returns-clause-err c =
-    let at : IsAt (map entry_in c.self.inside.rows.items) c.args.name.now c.in-Ok.place = rw (← c.deref.ensures.value, ← c.as_bytes.ensures) c.in-Ok.ensures.found in
+    let at : IsAt (map entry_in c.self.inside.rows.items) c.args.name.now c.in-Ok.place = rw (← c.deref.ensures.value, ← c.as_bytes.ensures.value) c.in-Ok.ensures.found in
     on_err c.apply.result (λ same. same_is c.self.inside c.self.invariant c.args.self.now c.self.view_is c.args.name.now c.in-Ok.place at c.index_mut.result.now c.index_mut.ensures.value
     (c.own.follows.lender c.apply.new.self) (lent c.own.result _ c.in_ok-file_system.was (c.own.follows.holds c.apply.new.self) ∙ same ∙ c.in_ok-file_system.ensures.value)) c.apply.ensures.err
 
 pub returns-clause-room : goal.returns-clause-room
 returns-clause-room c =
-    let at : IsAt (map entry_in c.self.inside.rows.items) c.args.name.now c.in-Ok.place = rw (← c.deref.ensures.value, ← c.as_bytes.ensures) c.in-Ok.ensures.found in
+    let at : IsAt (map entry_in c.self.inside.rows.items) c.args.name.now c.in-Ok.place = rw (← c.deref.ensures.value, ← c.as_bytes.ensures.value) c.in-Ok.ensures.found in
     let is = row_of entry_in c.self.inside.rows.items c.in-Ok.place c.index_mut.result.now c.index_mut.ensures.value in
     let before = live_is _ c.self.invariant.sorted c.args.name.now c.in-Ok.place at (entry_in c.index_mut.result.now) is in
     let snaps = snaps_are _ c.self.invariant.sorted c.args.name.now c.in-Ok.place at (entry_in c.index_mut.result.now) is in
@@ -133,14 +133,14 @@ returns-clause-room c =
 
 pub returns-clause-no_dataset : goal.returns-clause-no_dataset
 returns-clause-no_dataset c =
-    let at : IsAt (map entry_in c.self.inside.rows.items) c.args.name.now c.in-Ok.place = rw (← c.deref.ensures.value, ← c.as_bytes.ensures) c.in-Ok.ensures.found in
+    let at : IsAt (map entry_in c.self.inside.rows.items) c.args.name.now c.in-Ok.place = rw (← c.deref.ensures.value, ← c.as_bytes.ensures.value) c.in-Ok.ensures.found in
     let is = row_of entry_in c.self.inside.rows.items c.in-Ok.place c.index_mut.result.now c.index_mut.ensures.value in
     let there = is_there _ c.self.invariant.sorted c.args.name.now c.in-Ok.place at (entry_in c.index_mut.result.now) is in
     (λ e. absurd (other_refusal c.apply.result c.apply.ensures.only e), λ none. absurd (not_some (get c.args.self.now c.args.name.now) none (rw (← c.self.view_is) there)))
 
 pub returns-clause-no_space : goal.returns-clause-no_space
 returns-clause-no_space c =
-    let at : IsAt (map entry_in c.self.inside.rows.items) c.args.name.now c.in-Ok.place = rw (← c.deref.ensures.value, ← c.as_bytes.ensures) c.in-Ok.ensures.found in
+    let at : IsAt (map entry_in c.self.inside.rows.items) c.args.name.now c.in-Ok.place = rw (← c.deref.ensures.value, ← c.as_bytes.ensures.value) c.in-Ok.ensures.found in
     let is = row_of entry_in c.self.inside.rows.items c.in-Ok.place c.index_mut.result.now c.index_mut.ensures.value in
     let before = live_is _ c.self.invariant.sorted c.args.name.now c.in-Ok.place at (entry_in c.index_mut.result.now) is in
     let snaps = snaps_are _ c.self.invariant.sorted c.args.name.now c.in-Ok.place at (entry_in c.index_mut.result.now) is in
@@ -149,7 +149,7 @@ returns-clause-no_space c =
 
 pub returns-clause-metered : goal.returns-clause-metered
 returns-clause-metered c =
-    let at : IsAt (map entry_in c.self.inside.rows.items) c.args.name.now c.in-Ok.place = rw (← c.deref.ensures.value, ← c.as_bytes.ensures) c.in-Ok.ensures.found in
+    let at : IsAt (map entry_in c.self.inside.rows.items) c.args.name.now c.in-Ok.place = rw (← c.deref.ensures.value, ← c.as_bytes.ensures.value) c.in-Ok.ensures.found in
     let is = row_of entry_in c.self.inside.rows.items c.in-Ok.place c.index_mut.result.now c.index_mut.ensures.value in
     let before = live_is _ c.self.invariant.sorted c.args.name.now c.in-Ok.place at (entry_in c.index_mut.result.now) is in
     rw (← c.self.view_is, before, ← c.in_ok-file_system.ensures.value) c.apply.ensures.metered

@@ -18,7 +18,7 @@ use Rattle.datasets.proofs.file_systems.FileSystems.lost.Goals as goal
 -- the file system is there
 pub unreachable-requires : goal.unreachable-requires
 unreachable-requires c =
-    let gap : IsGapFor (map entry_in c.self.inside.rows.items) c.args.name.now c.in_default.field-0 = rw (← c.deref.ensures.value, ← c.as_bytes.ensures) c.in_default.ensures.absent in
+    let gap : IsGapFor (map entry_in c.self.inside.rows.items) c.args.name.now c.in_default.field-0 = rw (← c.deref.ensures.value, ← c.as_bytes.ensures.value) c.in_default.ensures.absent in
     let none : get c.args.self.now c.args.name.now ≡ None = rw (← c.self.view_is) (get_gap _ c.self.invariant.sorted c.args.name.now c.in_default.field-0 gap) in
     not_some (get c.args.self.now c.args.name.now) none c.requires.there
 
@@ -26,7 +26,7 @@ pub lost-requires : goal.lost-requires
 lost-requires c =
     let rows = map entry_in c.self.inside.rows.items in
     let row = entry_in c.index.result.now in
-    let at : IsAt rows c.args.name.now c.in-Ok.place = rw (← c.deref.ensures.value, ← c.as_bytes.ensures) c.in-Ok.ensures.found in
+    let at : IsAt rows c.args.name.now c.in-Ok.place = rw (← c.deref.ensures.value, ← c.as_bytes.ensures.value) c.in-Ok.ensures.found in
     let is = row_of entry_in c.self.inside.rows.items c.in-Ok.place c.index.result.now c.index.ensures in
     let live = ap (λ m. live_of m c.args.name.now) (sym c.self.view_is) ∙ live_is _ c.self.invariant.sorted c.args.name.now c.in-Ok.place at row is in
     let snaps = ap (λ m. snaps_at m c.args.name.now) (sym c.self.view_is) ∙ snaps_are _ c.self.invariant.sorted c.args.name.now c.in-Ok.place at row is in
@@ -43,7 +43,7 @@ pub returns-clause-lost : goal.returns-clause-lost
 returns-clause-lost c =
     let rows = map entry_in c.self.inside.rows.items in
     let row = entry_in c.index.result.now in
-    let at : IsAt rows c.args.name.now c.in-Ok.place = rw (← c.deref.ensures.value, ← c.as_bytes.ensures) c.in-Ok.ensures.found in
+    let at : IsAt rows c.args.name.now c.in-Ok.place = rw (← c.deref.ensures.value, ← c.as_bytes.ensures.value) c.in-Ok.ensures.found in
     let is = row_of entry_in c.self.inside.rows.items c.in-Ok.place c.index.result.now c.index.ensures in
     let live = ap (λ m. live_of m c.args.name.now) (sym c.self.view_is) ∙ live_is _ c.self.invariant.sorted c.args.name.now c.in-Ok.place at row is in
     let snaps = ap (λ m. snaps_at m c.args.name.now) (sym c.self.view_is) ∙ snaps_are _ c.self.invariant.sorted c.args.name.now c.in-Ok.place at row is in

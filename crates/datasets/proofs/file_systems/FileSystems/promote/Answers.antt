@@ -26,7 +26,7 @@ use Rattle.datasets.proofs.file_systems.FileSystems.promote.Goals as goal
 -- the file system is there
 pub unreachable-requires : goal.unreachable-requires
 unreachable-requires c =
-    let gap : IsGapFor (map entry_in c.self.inside.rows.items) c.args.name.now c.in_default.field-0 = rw (← c.deref.ensures.value, ← c.as_bytes.ensures) c.in_default.ensures.absent in
+    let gap : IsGapFor (map entry_in c.self.inside.rows.items) c.args.name.now c.in_default.field-0 = rw (← c.deref.ensures.value, ← c.as_bytes.ensures.value) c.in_default.ensures.absent in
     let none : get c.args.self.now c.args.name.now ≡ None = rw (← c.self.view_is) (get_gap _ c.self.invariant.sorted c.args.name.now c.in_default.field-0 gap) in
     let there = c.requires.is.here in
     true≢false (ap is_some (sym there ∙ none))
@@ -34,7 +34,7 @@ unreachable-requires c =
 -- it is a clone
 pub unreachable-requires-in_default-origin : goal.unreachable-requires-in_default-origin
 unreachable-requires-in_default-origin c =
-    let at : IsAt (map entry_in c.self.inside.rows.items) c.args.name.now c.in-Ok.place = rw (← c.deref.ensures.value, ← c.as_bytes.ensures) c.in-Ok.ensures.found in
+    let at : IsAt (map entry_in c.self.inside.rows.items) c.args.name.now c.in-Ok.place = rw (← c.deref.ensures.value, ← c.as_bytes.ensures.value) c.in-Ok.ensures.found in
     let here = got (map entry_in c.self.inside.rows.items) c.self.invariant.sorted c.args.name.now c.in-Ok.place at (entry_in c.index.result.now) (row_of entry_in c.self.inside.rows.items c.in-Ok.place c.index.result.now c.index.ensures) in
     let system = same_value c.requires.between.clone (arc_value c.index.result.now).system (sym c.requires.is.here ∙ ap (λ m. get m c.args.name.now) (sym c.self.view_is) ∙ here) in
     let none = ap (option_map snap_id) (sym c.in_default-origin.is) ∙ c.origin.ensures ∙ ap (λ (r : Row). r.system.origin) c.deref-2.ensures in
@@ -50,7 +50,7 @@ owner_place-requires c r h =
 pub unreachable-requires-in_default-owner_place : goal.unreachable-requires-in_default-owner_place
 unreachable-requires-in_default-owner_place c =
     let items = c.self.inside.rows.items in
-    let at : IsAt (map entry_in items) c.args.name.now c.in-Ok.place = rw (← c.deref.ensures.value, ← c.as_bytes.ensures) c.in-Ok.ensures.found in
+    let at : IsAt (map entry_in items) c.args.name.now c.in-Ok.place = rw (← c.deref.ensures.value, ← c.as_bytes.ensures.value) c.in-Ok.ensures.found in
     let a = c.index.result.now in
     let id = snap_id c.in-Some.origin in
     let origin : (arc_value a).system.origin ≡ Some id = sym (ap (λ (r : Row). r.system.origin) c.deref-2.ensures) ∙ sym c.origin.ensures ∙ ap (option_map snap_id) c.in-Some.is in
@@ -65,7 +65,7 @@ promote_at-requires-clause-apart c =
     let items = c.self.inside.rows.items in
     let q = c.args.name.now in
     let m = from_sorted {R = name_cmp} (map entry_in items) in
-    let at : IsAt (map entry_in items) q c.in-Ok.place = rw (← c.deref.ensures.value, ← c.as_bytes.ensures) c.in-Ok.ensures.found in
+    let at : IsAt (map entry_in items) q c.in-Ok.place = rw (← c.deref.ensures.value, ← c.as_bytes.ensures.value) c.in-Ok.ensures.found in
     let a = c.index.result.now in
     let id = snap_id c.in-Some.origin in
     let other : c.in-Some-owner_place.other < length items = subst (λ l. c.in-Some-owner_place.other < length l) c.deref-3.ensures.value c.in-Some-owner_place.ensures.within in
@@ -83,7 +83,7 @@ promote_at-requires-clause-can c =
     let items = c.self.inside.rows.items in
     let q = c.args.name.now in
     let m = from_sorted {R = name_cmp} (map entry_in items) in
-    let at : IsAt (map entry_in items) q c.in-Ok.place = rw (← c.deref.ensures.value, ← c.as_bytes.ensures) c.in-Ok.ensures.found in
+    let at : IsAt (map entry_in items) q c.in-Ok.place = rw (← c.deref.ensures.value, ← c.as_bytes.ensures.value) c.in-Ok.ensures.found in
     let a = c.index.result.now in
     let id = snap_id c.in-Some.origin in
     let other : c.in-Some-owner_place.other < length items = subst (λ l. c.in-Some-owner_place.other < length l) c.deref-3.ensures.value c.in-Some-owner_place.ensures.within in
@@ -134,7 +134,7 @@ invariant_of-self-2 c =
     let items = c.self.inside.rows.items in
     let q = c.args.name.now in
     let m = from_sorted {R = name_cmp} (map entry_in items) in
-    let at : IsAt (map entry_in items) q c.in-Ok.place = rw (← c.deref.ensures.value, ← c.as_bytes.ensures) c.in-Ok.ensures.found in
+    let at : IsAt (map entry_in items) q c.in-Ok.place = rw (← c.deref.ensures.value, ← c.as_bytes.ensures.value) c.in-Ok.ensures.found in
     let a = c.index.result.now in
     let id = snap_id c.in-Some.origin in
     let other : c.in-Some-owner_place.other < length items = subst (λ l. c.in-Some-owner_place.other < length l) c.deref-3.ensures.value c.in-Some-owner_place.ensures.within in
@@ -170,7 +170,7 @@ returns-clause-ok c p is =
     let items = c.self.inside.rows.items in
     let q = c.args.name.now in
     let m = from_sorted {R = name_cmp} (map entry_in items) in
-    let at : IsAt (map entry_in items) q c.in-Ok.place = rw (← c.deref.ensures.value, ← c.as_bytes.ensures) c.in-Ok.ensures.found in
+    let at : IsAt (map entry_in items) q c.in-Ok.place = rw (← c.deref.ensures.value, ← c.as_bytes.ensures.value) c.in-Ok.ensures.found in
     let a = c.index.result.now in
     let id = snap_id c.in-Some.origin in
     let other : c.in-Some-owner_place.other < length items = subst (λ l. c.in-Some-owner_place.other < length l) c.deref-3.ensures.value c.in-Some-owner_place.ensures.within in

@@ -14,31 +14,31 @@ use Rattle.datasets.proofs.file_systems.FileSystems.set_tags.Goals as goal
 -- a snapshot isn't of a file system that isn't there
 pub unreachable-requires : goal.unreachable-requires
 unreachable-requires c =
-    let gap : IsGapFor (map entry_in c.self.inside.rows.items) c.args.name.now c.in_default.field-0 = rw (← c.deref.ensures.value, ← c.as_bytes.ensures) c.in_default.ensures.absent in
+    let gap : IsGapFor (map entry_in c.self.inside.rows.items) c.args.name.now c.in_default.field-0 = rw (← c.deref.ensures.value, ← c.as_bytes.ensures.value) c.in_default.ensures.absent in
     no_snap_in_gap c.self.inside c.self.invariant c.args.self.now c.self.view_is c.args.name.now c.in_default.field-0 gap c.args.group.0 c.requires.there
 
 pub set_tags-requires-clause-there : goal.set_tags-requires-clause-there
 set_tags-requires-clause-there c =
-    let at : IsAt (map entry_in c.self.inside.rows.items) c.args.name.now c.in-Ok.place = rw (← c.deref.ensures.value, ← c.as_bytes.ensures) c.in-Ok.ensures.found in
+    let at : IsAt (map entry_in c.self.inside.rows.items) c.args.name.now c.in-Ok.place = rw (← c.deref.ensures.value, ← c.as_bytes.ensures.value) c.in-Ok.ensures.found in
     subst (λ (r : Row). IsSome (find (λ (t : Snap). t.group == c.args.group.0) r.system.snaps)) (sym c.in_ok-file_system.ensures.value)
     (snap_there c.self.inside c.self.invariant c.args.self.now c.self.view_is c.args.name.now c.in-Ok.place at c.index_mut.result.now c.index_mut.ensures.value c.args.group.0 c.requires.there)
 
 pub set_tags-requires-clause-above : goal.set_tags-requires-clause-above
 set_tags-requires-clause-above c =
-    let at : IsAt (map entry_in c.self.inside.rows.items) c.args.name.now c.in-Ok.place = rw (← c.deref.ensures.value, ← c.as_bytes.ensures) c.in-Ok.ensures.found in
+    let at : IsAt (map entry_in c.self.inside.rows.items) c.args.name.now c.in-Ok.place = rw (← c.deref.ensures.value, ← c.as_bytes.ensures.value) c.in-Ok.ensures.found in
     subst (λ (r : Row). AreAbove r.below r.system) (sym c.in_ok-file_system.ensures.value)
     (stands_above c.self.inside c.self.invariant c.args.self.now c.self.view_is c.args.name.now c.in-Ok.place at c.index_mut.result.now c.index_mut.ensures.value c.requires.above)
 
 -- where memory was refused the rows are the same
 pub invariant_of-self : goal.invariant_of-self
 invariant_of-self c =
-    let at : IsAt (map entry_in c.self.inside.rows.items) c.args.name.now c.in-Ok.place = rw (← c.deref.ensures.value, ← c.as_bytes.ensures) c.in-Ok.ensures.found in
+    let at : IsAt (map entry_in c.self.inside.rows.items) c.args.name.now c.in-Ok.place = rw (← c.deref.ensures.value, ← c.as_bytes.ensures.value) c.in-Ok.ensures.found in
     same_sorted c.self.inside c.self.invariant c.args.self.now c.self.view_is c.args.name.now c.in-Ok.place at c.index_mut.result.now c.index_mut.ensures.value
     c.own.follows.lender-at-none (not_lent c.own.result _ c.in_err-file_system.was c.own.follows.holds-at-none) _ refl refl refl
 
 pub returns-in_err-file_system-clause-err : goal.returns-in_err-file_system-clause-err
 returns-in_err-file_system-clause-err c =
-    let at : IsAt (map entry_in c.self.inside.rows.items) c.args.name.now c.in-Ok.place = rw (← c.deref.ensures.value, ← c.as_bytes.ensures) c.in-Ok.ensures.found in
+    let at : IsAt (map entry_in c.self.inside.rows.items) c.args.name.now c.in-Ok.place = rw (← c.deref.ensures.value, ← c.as_bytes.ensures.value) c.in-Ok.ensures.found in
     on_err c.from_residual.result
     (same_is c.self.inside c.self.invariant c.args.self.now c.self.view_is c.args.name.now c.in-Ok.place at c.index_mut.result.now c.index_mut.ensures.value
     c.own.follows.lender-at-none (not_lent c.own.result _ c.in_err-file_system.was c.own.follows.holds-at-none))
@@ -46,7 +46,7 @@ returns-in_err-file_system-clause-err c =
 -- the row has other labels, or is the same
 pub invariant_of-self-2 : goal.invariant_of-self-2
 invariant_of-self-2 c =
-    let at : IsAt (map entry_in c.self.inside.rows.items) c.args.name.now c.in-Ok.place = rw (← c.deref.ensures.value, ← c.as_bytes.ensures) c.in-Ok.ensures.found in
+    let at : IsAt (map entry_in c.self.inside.rows.items) c.args.name.now c.in-Ok.place = rw (← c.deref.ensures.value, ← c.as_bytes.ensures.value) c.in-Ok.ensures.found in
     tried_sorted c.self.inside c.self.invariant c.args.self.now c.self.view_is c.args.name.now c.in-Ok.place at c.index_mut.result.now c.index_mut.ensures.value
     (λ f. tagged_at f c.args.group.0 (arc_value c.args.tags)) (is_edited (with_tags (arc_value c.args.tags)) (λ t. refl) (λ t. refl) c.args.group.0 (arc_value c.index_mut.result.now).system) (c.own.follows.lender c.set_tags.new.self) c.set_tags.new.self c.in_ok-file_system.file_system.now
     (lent c.own.result _ c.in_ok-file_system.was (c.own.follows.holds c.set_tags.new.self)) c.in_ok-file_system.ensures.value
@@ -54,7 +54,7 @@ invariant_of-self-2 c =
 
 pub returns-clause-ok : goal.returns-clause-ok
 returns-clause-ok c =
-    let at : IsAt (map entry_in c.self.inside.rows.items) c.args.name.now c.in-Ok.place = rw (← c.deref.ensures.value, ← c.as_bytes.ensures) c.in-Ok.ensures.found in
+    let at : IsAt (map entry_in c.self.inside.rows.items) c.args.name.now c.in-Ok.place = rw (← c.deref.ensures.value, ← c.as_bytes.ensures.value) c.in-Ok.ensures.found in
     tried_is c.self.inside c.self.invariant c.args.self.now c.self.view_is c.args.name.now c.in-Ok.place at c.index_mut.result.now c.index_mut.ensures.value
     (λ f. tagged_at f c.args.group.0 (arc_value c.args.tags)) (is_edited (with_tags (arc_value c.args.tags)) (λ t. refl) (λ t. refl) c.args.group.0 (arc_value c.index_mut.result.now).system) (c.own.follows.lender c.set_tags.new.self) c.set_tags.new.self c.in_ok-file_system.file_system.now
     (lent c.own.result _ c.in_ok-file_system.was (c.own.follows.holds c.set_tags.new.self)) c.in_ok-file_system.ensures.value
@@ -62,7 +62,7 @@ returns-clause-ok c =
 
 pub returns-clause-err : goal.returns-clause-err
 returns-clause-err c =
-    let at : IsAt (map entry_in c.self.inside.rows.items) c.args.name.now c.in-Ok.place = rw (← c.deref.ensures.value, ← c.as_bytes.ensures) c.in-Ok.ensures.found in
+    let at : IsAt (map entry_in c.self.inside.rows.items) c.args.name.now c.in-Ok.place = rw (← c.deref.ensures.value, ← c.as_bytes.ensures.value) c.in-Ok.ensures.found in
     tried_same c.self.inside c.self.invariant c.args.self.now c.self.view_is c.args.name.now c.in-Ok.place at c.index_mut.result.now c.index_mut.ensures.value
     (λ f. tagged_at f c.args.group.0 (arc_value c.args.tags)) (is_edited (with_tags (arc_value c.args.tags)) (λ t. refl) (λ t. refl) c.args.group.0 (arc_value c.index_mut.result.now).system) (c.own.follows.lender c.set_tags.new.self) c.set_tags.new.self c.in_ok-file_system.file_system.now
     (lent c.own.result _ c.in_ok-file_system.was (c.own.follows.holds c.set_tags.new.self)) c.in_ok-file_system.ensures.value

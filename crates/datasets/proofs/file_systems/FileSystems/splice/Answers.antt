@@ -25,45 +25,45 @@ use Rattle.datasets.proofs.file_systems.FileSystems.splice.Goals as goal
 -- a snapshot isn't of a file system that isn't there
 pub unreachable-requires : goal.unreachable-requires
 unreachable-requires c =
-    let gap : IsGapFor (map entry_in c.self.inside.rows.items) c.args.name.now c.in_default.field-0 = rw (← c.deref.ensures.value, ← c.as_bytes.ensures) c.in_default.ensures.absent in
+    let gap : IsGapFor (map entry_in c.self.inside.rows.items) c.args.name.now c.in_default.field-0 = rw (← c.deref.ensures.value, ← c.as_bytes.ensures.value) c.in_default.ensures.absent in
     let none : get c.args.self.now c.args.name.now ≡ None = rw (← c.self.view_is) (get_gap _ c.self.invariant.sorted c.args.name.now c.in_default.field-0 gap) in
     true≢false (sym c.requires.there ∙ ap (λ (o : Option FileSystem). is_some (find (λ (t : Snap). t.group == c.args.group.0) (option_map_or (λ (f : FileSystem). f.snaps) o []))) none)
 
 pub splice-requires-clause-there : goal.splice-requires-clause-there
 splice-requires-clause-there c =
-    let at : IsAt (map entry_in c.self.inside.rows.items) c.args.name.now c.in-Ok.place = rw (← c.deref.ensures.value, ← c.as_bytes.ensures) c.in-Ok.ensures.found in
+    let at : IsAt (map entry_in c.self.inside.rows.items) c.args.name.now c.in-Ok.place = rw (← c.deref.ensures.value, ← c.as_bytes.ensures.value) c.in-Ok.ensures.found in
     subst (λ (r : Row). IsSome (find (λ (t : Snap). t.group == c.args.group.0) r.system.snaps)) (sym c.in_ok-file_system.ensures.value)
     (snap_there c.self.inside c.self.invariant c.args.self.now c.self.view_is c.args.name.now c.in-Ok.place at c.index_mut.result.now c.index_mut.ensures.value c.args.group.0 c.requires.there)
 
 pub splice-requires-clause-above : goal.splice-requires-clause-above
 splice-requires-clause-above c =
-    let at : IsAt (map entry_in c.self.inside.rows.items) c.args.name.now c.in-Ok.place = rw (← c.deref.ensures.value, ← c.as_bytes.ensures) c.in-Ok.ensures.found in
+    let at : IsAt (map entry_in c.self.inside.rows.items) c.args.name.now c.in-Ok.place = rw (← c.deref.ensures.value, ← c.as_bytes.ensures.value) c.in-Ok.ensures.found in
     subst (λ (r : Row). AreAbove r.below r.system) (sym c.in_ok-file_system.ensures.value)
     (stands_above c.self.inside c.self.invariant c.args.self.now c.self.view_is c.args.name.now c.in-Ok.place at c.index_mut.result.now c.index_mut.ensures.value c.requires.above)
 
 -- where memory was refused the rows are the same
 pub invariant_of-self : goal.invariant_of-self
 invariant_of-self c =
-    let at : IsAt (map entry_in c.self.inside.rows.items) c.args.name.now c.in-Ok.place = rw (← c.deref.ensures.value, ← c.as_bytes.ensures) c.in-Ok.ensures.found in
+    let at : IsAt (map entry_in c.self.inside.rows.items) c.args.name.now c.in-Ok.place = rw (← c.deref.ensures.value, ← c.as_bytes.ensures.value) c.in-Ok.ensures.found in
     same_sorted c.self.inside c.self.invariant c.args.self.now c.self.view_is c.args.name.now c.in-Ok.place at c.index_mut.result.now c.index_mut.ensures.value
     c.own.follows.lender-at-none (not_lent c.own.result _ c.in_err-file_system.was c.own.follows.holds-at-none) _ refl refl refl
 
 pub returns-in_err-file_system-clause-err : goal.returns-in_err-file_system-clause-err
 returns-in_err-file_system-clause-err c =
-    let at : IsAt (map entry_in c.self.inside.rows.items) c.args.name.now c.in-Ok.place = rw (← c.deref.ensures.value, ← c.as_bytes.ensures) c.in-Ok.ensures.found in
+    let at : IsAt (map entry_in c.self.inside.rows.items) c.args.name.now c.in-Ok.place = rw (← c.deref.ensures.value, ← c.as_bytes.ensures.value) c.in-Ok.ensures.found in
     on_err c.from_residual.result
     (same_is c.self.inside c.self.invariant c.args.self.now c.self.view_is c.args.name.now c.in-Ok.place at c.index_mut.result.now c.index_mut.ensures.value
     c.own.follows.lender-at-none (not_lent c.own.result _ c.in_err-file_system.was c.own.follows.holds-at-none))
 
 pub invariant_of-self-in_err-lost : goal.invariant_of-self-in_err-lost
 invariant_of-self-in_err-lost c =
-    let at : IsAt (map entry_in c.self.inside.rows.items) c.args.name.now c.in-Ok.place = rw (← c.deref.ensures.value, ← c.as_bytes.ensures) c.in-Ok.ensures.found in
+    let at : IsAt (map entry_in c.self.inside.rows.items) c.args.name.now c.in-Ok.place = rw (← c.deref.ensures.value, ← c.as_bytes.ensures.value) c.in-Ok.ensures.found in
     same_sorted c.self.inside c.self.invariant c.args.self.now c.self.view_is c.args.name.now c.in-Ok.place at c.index_mut.result.now c.index_mut.ensures.value (c.own.follows.lender c.splice.new.self)
     (lent c.own.result _ c.in_ok-file_system.was (c.own.follows.holds c.splice.new.self) ∙ c.in_err-lost.ensures.err ∙ c.in_ok-file_system.ensures.value) _ refl refl refl
 
 pub returns-in_err-lost-clause-err : goal.returns-in_err-lost-clause-err
 returns-in_err-lost-clause-err c =
-    let at : IsAt (map entry_in c.self.inside.rows.items) c.args.name.now c.in-Ok.place = rw (← c.deref.ensures.value, ← c.as_bytes.ensures) c.in-Ok.ensures.found in
+    let at : IsAt (map entry_in c.self.inside.rows.items) c.args.name.now c.in-Ok.place = rw (← c.deref.ensures.value, ← c.as_bytes.ensures.value) c.in-Ok.ensures.found in
     on_err c.from_residual-in_err-lost.result
     (same_is c.self.inside c.self.invariant c.args.self.now c.self.view_is c.args.name.now c.in-Ok.place at c.index_mut.result.now c.index_mut.ensures.value (c.own.follows.lender c.splice.new.self)
     (lent c.own.result _ c.in_ok-file_system.was (c.own.follows.holds c.splice.new.self) ∙ c.in_err-lost.ensures.err ∙ c.in_ok-file_system.ensures.value))
@@ -75,7 +75,7 @@ overflow_sub-self c =
     let rows = map entry_in c.self.inside.rows.items in
     let row = entry_in c.index_mut.result.now in
     let after = entry_in (c.own.follows.lender c.splice.new.self) in
-    let at : IsAt rows c.args.name.now c.in-Ok.place = rw (← c.deref.ensures.value, ← c.as_bytes.ensures) c.in-Ok.ensures.found in
+    let at : IsAt rows c.args.name.now c.in-Ok.place = rw (← c.deref.ensures.value, ← c.as_bytes.ensures.value) c.in-Ok.ensures.found in
     let is = row_of entry_in c.self.inside.rows.items c.in-Ok.place c.index_mut.result.now c.index_mut.ensures.value in
     let below = below_is c.self.inside.rows.items c.self.invariant.sorted c.self.invariant.tied c.args.name.now c.in-Ok.place at c.index_mut.result.now c.index_mut.ensures.value in
     let above : AreAbove (arc_value c.index_mut.result.now).below row.1 =
@@ -94,7 +94,7 @@ invariant_of-self-2 c =
     let rows = map entry_in c.self.inside.rows.items in
     let row = entry_in c.index_mut.result.now in
     let after = entry_in (c.own.follows.lender c.splice.new.self) in
-    let at : IsAt rows c.args.name.now c.in-Ok.place = rw (← c.deref.ensures.value, ← c.as_bytes.ensures) c.in-Ok.ensures.found in
+    let at : IsAt rows c.args.name.now c.in-Ok.place = rw (← c.deref.ensures.value, ← c.as_bytes.ensures.value) c.in-Ok.ensures.found in
     let is = row_of entry_in c.self.inside.rows.items c.in-Ok.place c.index_mut.result.now c.index_mut.ensures.value in
     let below = below_is c.self.inside.rows.items c.self.invariant.sorted c.self.invariant.tied c.args.name.now c.in-Ok.place at c.index_mut.result.now c.index_mut.ensures.value in
     let above : AreAbove (arc_value c.index_mut.result.now).below row.1 =
@@ -126,7 +126,7 @@ returns-clause-ok c =
     let done = (lent c.own.result _ c.in_ok-file_system.was (c.own.follows.holds c.splice.new.self) ∙ c.in_ok-lost.ensures.ok ∙ ap (λ (r : Row). with_system r (without_group r.system c.args.group.0)) c.in_ok-file_system.ensures.value) in
     let rows = map entry_in c.self.inside.rows.items in
     let row = entry_in c.index_mut.result.now in
-    let at : IsAt rows c.args.name.now c.in-Ok.place = rw (← c.deref.ensures.value, ← c.as_bytes.ensures) c.in-Ok.ensures.found in
+    let at : IsAt rows c.args.name.now c.in-Ok.place = rw (← c.deref.ensures.value, ← c.as_bytes.ensures.value) c.in-Ok.ensures.found in
     let is = row_of entry_in c.self.inside.rows.items c.in-Ok.place c.index_mut.result.now c.index_mut.ensures.value in
     rw (← c.self.view_is, map-set) (made_is rows c.self.invariant.sorted c.args.name.now c.in-Ok.place at row is (λ f. without_group f c.args.group.0) (entry_in (c.own.follows.lender c.splice.new.self)) (ap entry_of done))
 
@@ -134,7 +134,7 @@ pub returns-clause-lost : goal.returns-clause-lost
 returns-clause-lost c =
     let rows = map entry_in c.self.inside.rows.items in
     let row = entry_in c.index_mut.result.now in
-    let at : IsAt rows c.args.name.now c.in-Ok.place = rw (← c.deref.ensures.value, ← c.as_bytes.ensures) c.in-Ok.ensures.found in
+    let at : IsAt rows c.args.name.now c.in-Ok.place = rw (← c.deref.ensures.value, ← c.as_bytes.ensures.value) c.in-Ok.ensures.found in
     let is = row_of entry_in c.self.inside.rows.items c.in-Ok.place c.index_mut.result.now c.index_mut.ensures.value in
     let before = live_is _ c.self.invariant.sorted c.args.name.now c.in-Ok.place at row is in
     let snaps = snaps_are _ c.self.invariant.sorted c.args.name.now c.in-Ok.place at row is in

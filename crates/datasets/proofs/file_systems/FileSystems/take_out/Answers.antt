@@ -18,7 +18,7 @@ use Rattle.datasets.proofs.file_systems.FileSystems.take_out.Goals as goal
 -- the file system is there
 pub unreachable-requires : goal.unreachable-requires
 unreachable-requires c =
-    let gap : IsGapFor (map entry_in c.self.inside.rows.items) c.args.name.now c.in_default.field-0 = rw (← c.deref.ensures.value, ← c.as_bytes.ensures) c.in_default.ensures.absent in
+    let gap : IsGapFor (map entry_in c.self.inside.rows.items) c.args.name.now c.in_default.field-0 = rw (← c.deref.ensures.value, ← c.as_bytes.ensures.value) c.in_default.ensures.absent in
     let none : get c.args.self.now c.args.name.now ≡ None = rw (← c.self.view_is) (get_gap _ c.self.invariant.sorted c.args.name.now c.in_default.field-0 gap) in
     not_some (get c.args.self.now c.args.name.now) none c.requires.there
 
@@ -27,7 +27,7 @@ pub invariant_of-self : goal.invariant_of-self
 invariant_of-self c =
     let rows = map entry_in c.self.inside.rows.items in
     let row = entry_in c.index.result.now in
-    let at : IsAt rows c.args.name.now c.in-Ok.place = rw (← c.deref.ensures.value, ← c.as_bytes.ensures) c.in-Ok.ensures.found in
+    let at : IsAt rows c.args.name.now c.in-Ok.place = rw (← c.deref.ensures.value, ← c.as_bytes.ensures.value) c.in-Ok.ensures.found in
     let is = row_of entry_in c.self.inside.rows.items c.in-Ok.place c.index.result.now c.index.ensures in
     let snaps = ap (λ m. snaps_at m c.args.name.now) (sym c.self.view_is) ∙ snaps_are _ c.self.invariant.sorted c.args.name.now c.in-Ok.place at row is in
     let left : map entry_in c.remove-gone.new.self.items ≡ remove rows c.in-Ok.place = map_removed entry_in c.self.inside.rows.items c.remove-gone.new.self.items c.in-Ok.place c.remove-gone.ensures.items in
@@ -53,6 +53,6 @@ pub returns : goal.returns
 returns c =
     let rows = map entry_in c.self.inside.rows.items in
     let row = entry_in c.index.result.now in
-    let at : IsAt rows c.args.name.now c.in-Ok.place = rw (← c.deref.ensures.value, ← c.as_bytes.ensures) c.in-Ok.ensures.found in
+    let at : IsAt rows c.args.name.now c.in-Ok.place = rw (← c.deref.ensures.value, ← c.as_bytes.ensures.value) c.in-Ok.ensures.found in
     let left : map entry_in c.remove-gone.new.self.items ≡ remove rows c.in-Ok.place = map_removed entry_in c.self.inside.rows.items c.remove-gone.new.self.items c.in-Ok.place c.remove-gone.ensures.items in
     rw (left, ← c.self.view_is) (removed_is rows c.self.invariant.sorted c.args.name.now c.in-Ok.place at row)

@@ -18,32 +18,32 @@ use Rattle.datasets.proofs.file_systems.FileSystems.take_snapshot.Goals as goal
 -- the file system is there
 pub unreachable-requires : goal.unreachable-requires
 unreachable-requires c =
-    let gap : IsGapFor (map entry_in c.self.inside.rows.items) c.args.name.now c.in_default.field-0 = rw (← c.deref.ensures.value, ← c.as_bytes.ensures) c.in_default.ensures.absent in
+    let gap : IsGapFor (map entry_in c.self.inside.rows.items) c.args.name.now c.in_default.field-0 = rw (← c.deref.ensures.value, ← c.as_bytes.ensures.value) c.in_default.ensures.absent in
     not_some (get c.args.self.now c.args.name.now) (rw (← c.self.view_is) (get_gap _ c.self.invariant.sorted c.args.name.now c.in_default.field-0 gap)) c.requires.there
 
 -- where memory was refused the rows are the same
 pub invariant_of-self : goal.invariant_of-self
 invariant_of-self c =
-    let at : IsAt (map entry_in c.self.inside.rows.items) c.args.name.now c.in-Ok.place = rw (← c.deref.ensures.value, ← c.as_bytes.ensures) c.in-Ok.ensures.found in
+    let at : IsAt (map entry_in c.self.inside.rows.items) c.args.name.now c.in-Ok.place = rw (← c.deref.ensures.value, ← c.as_bytes.ensures.value) c.in-Ok.ensures.found in
     same_sorted c.self.inside c.self.invariant c.args.self.now c.self.view_is c.args.name.now c.in-Ok.place at c.index_mut.result.now c.index_mut.ensures.value
     c.own.follows.lender-at-none (not_lent c.own.result _ c.in_err-file_system.was c.own.follows.holds-at-none) _ refl refl refl
 
 pub returns-in_err-file_system-clause-err : goal.returns-in_err-file_system-clause-err
 returns-in_err-file_system-clause-err c =
-    let at : IsAt (map entry_in c.self.inside.rows.items) c.args.name.now c.in-Ok.place = rw (← c.deref.ensures.value, ← c.as_bytes.ensures) c.in-Ok.ensures.found in
+    let at : IsAt (map entry_in c.self.inside.rows.items) c.args.name.now c.in-Ok.place = rw (← c.deref.ensures.value, ← c.as_bytes.ensures.value) c.in-Ok.ensures.found in
     on_err c.from_residual.result
     (same_is c.self.inside c.self.invariant c.args.self.now c.self.view_is c.args.name.now c.in-Ok.place at c.index_mut.result.now c.index_mut.ensures.value
     c.own.follows.lender-at-none (not_lent c.own.result _ c.in_err-file_system.was c.own.follows.holds-at-none))
 
 pub invariant_of-self-in_err-take : goal.invariant_of-self-in_err-take
 invariant_of-self-in_err-take c =
-    let at : IsAt (map entry_in c.self.inside.rows.items) c.args.name.now c.in-Ok.place = rw (← c.deref.ensures.value, ← c.as_bytes.ensures) c.in-Ok.ensures.found in
+    let at : IsAt (map entry_in c.self.inside.rows.items) c.args.name.now c.in-Ok.place = rw (← c.deref.ensures.value, ← c.as_bytes.ensures.value) c.in-Ok.ensures.found in
     same_sorted c.self.inside c.self.invariant c.args.self.now c.self.view_is c.args.name.now c.in-Ok.place at c.index_mut.result.now c.index_mut.ensures.value (c.own.follows.lender c.take.new.self)
     (lent c.own.result _ c.in_ok-file_system.was (c.own.follows.holds c.take.new.self) ∙ c.in_err-take.ensures.err ∙ c.in_ok-file_system.ensures.value) _ refl refl refl
 
 pub returns-in_err-take-clause-err : goal.returns-in_err-take-clause-err
 returns-in_err-take-clause-err c =
-    let at : IsAt (map entry_in c.self.inside.rows.items) c.args.name.now c.in-Ok.place = rw (← c.deref.ensures.value, ← c.as_bytes.ensures) c.in-Ok.ensures.found in
+    let at : IsAt (map entry_in c.self.inside.rows.items) c.args.name.now c.in-Ok.place = rw (← c.deref.ensures.value, ← c.as_bytes.ensures.value) c.in-Ok.ensures.found in
     on_err c.from_residual-in_err-take.result
     (same_is c.self.inside c.self.invariant c.args.self.now c.self.view_is c.args.name.now c.in-Ok.place at c.index_mut.result.now c.index_mut.ensures.value (c.own.follows.lender c.take.new.self)
     (lent c.own.result _ c.in_ok-file_system.was (c.own.follows.holds c.take.new.self) ∙ c.in_err-take.ensures.err ∙ c.in_ok-file_system.ensures.value))
@@ -55,7 +55,7 @@ invariant_of-self-2 c =
     let rows = map entry_in c.self.inside.rows.items in
     let row = entry_in c.index_mut.result.now in
     let after = entry_in (c.own.follows.lender c.take.new.self) in
-    let at : IsAt rows c.args.name.now c.in-Ok.place = rw (← c.deref.ensures.value, ← c.as_bytes.ensures) c.in-Ok.ensures.found in
+    let at : IsAt rows c.args.name.now c.in-Ok.place = rw (← c.deref.ensures.value, ← c.as_bytes.ensures.value) c.in-Ok.ensures.found in
     let is = row_of entry_in c.self.inside.rows.items c.in-Ok.place c.index_mut.result.now c.index_mut.ensures.value in
     let sorted = placed_sorted rows c.self.invariant.sorted c.args.name.now c.in-Ok.place at row is (with_snap row.1 c.args.component.now c.args.guid.0 c.args.group.0) after (ap entry_of done) in
     let longer : length after.1.snaps ≡ length row.1.snaps + 1 =
@@ -84,6 +84,6 @@ returns-clause-ok c =
     let done = (lent c.own.result _ c.in_ok-file_system.was (c.own.follows.holds c.take.new.self) ∙ c.in_ok-take.ensures.ok ∙ ap (λ (r : Row). with_system r (with_snap r.system c.args.component.now c.args.guid.0 c.args.group.0)) c.in_ok-file_system.ensures.value) in
     let rows = map entry_in c.self.inside.rows.items in
     let row = entry_in c.index_mut.result.now in
-    let at : IsAt rows c.args.name.now c.in-Ok.place = rw (← c.deref.ensures.value, ← c.as_bytes.ensures) c.in-Ok.ensures.found in
+    let at : IsAt rows c.args.name.now c.in-Ok.place = rw (← c.deref.ensures.value, ← c.as_bytes.ensures.value) c.in-Ok.ensures.found in
     let is = row_of entry_in c.self.inside.rows.items c.in-Ok.place c.index_mut.result.now c.index_mut.ensures.value in
     rw (← c.self.view_is, map-set) (made_is rows c.self.invariant.sorted c.args.name.now c.in-Ok.place at row is (λ f. with_snap f c.args.component.now c.args.guid.0 c.args.group.0) (entry_in (c.own.follows.lender c.take.new.self)) (ap entry_of done))

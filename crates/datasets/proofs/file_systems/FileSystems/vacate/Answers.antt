@@ -20,7 +20,7 @@ use Rattle.datasets.proofs.file_systems.FileSystems.vacate.Goals as goal
 -- the file system is there
 pub unreachable-requires : goal.unreachable-requires
 unreachable-requires c =
-    let gap : IsGapFor (map entry_in c.self.inside.rows.items) c.args.name.now c.in_default.field-0 = rw (← c.deref.ensures.value, ← c.as_bytes.ensures) c.in_default.ensures.absent in
+    let gap : IsGapFor (map entry_in c.self.inside.rows.items) c.args.name.now c.in_default.field-0 = rw (← c.deref.ensures.value, ← c.as_bytes.ensures.value) c.in_default.ensures.absent in
     let none : get c.args.self.now c.args.name.now ≡ None = rw (← c.self.view_is) (get_gap _ c.self.invariant.sorted c.args.name.now c.in_default.field-0 gap) in
     not_some (get c.args.self.now c.args.name.now) none c.requires.there
 
@@ -30,7 +30,7 @@ invariant_of-self c =
     let items = c.self.inside.rows.items in
     let rows = map entry_in items in
     let row = entry_in c.index.result.now in
-    let at : IsAt rows c.args.name.now c.in-Ok.place = rw (← c.deref.ensures.value, ← c.as_bytes.ensures) c.in-Ok.ensures.found in
+    let at : IsAt rows c.args.name.now c.in-Ok.place = rw (← c.deref.ensures.value, ← c.as_bytes.ensures.value) c.in-Ok.ensures.found in
     let is = row_of entry_in items c.in-Ok.place c.index.result.now c.index.ensures in
     let fresh : arc_value c.in_ok-empty.empty ≡ new_row c.args.name.now = c.in_ok-empty.ensures.ok ∙ c.in_ok-new.ensures.ok in
     let others : entry_in c.in_ok-empty.empty ≡ (row.0, empty_file_system) = ap entry_of fresh ∙ ap (λ (n : List ℕ). (n, empty_file_system)) (sym (its_name rows c.self.invariant.sorted c.args.name.now c.in-Ok.place at row is)) in
@@ -57,7 +57,7 @@ returns-clause-ok c =
     let items = c.self.inside.rows.items in
     let rows = map entry_in items in
     let row = entry_in c.index.result.now in
-    let at : IsAt rows c.args.name.now c.in-Ok.place = rw (← c.deref.ensures.value, ← c.as_bytes.ensures) c.in-Ok.ensures.found in
+    let at : IsAt rows c.args.name.now c.in-Ok.place = rw (← c.deref.ensures.value, ← c.as_bytes.ensures.value) c.in-Ok.ensures.found in
     let is = row_of entry_in items c.in-Ok.place c.index.result.now c.index.ensures in
     let fresh : arc_value c.in_ok-empty.empty ≡ new_row c.args.name.now = c.in_ok-empty.ensures.ok ∙ c.in_ok-new.ensures.ok in
     let others : entry_in c.in_ok-empty.empty ≡ (row.0, empty_file_system) = ap entry_of fresh ∙ ap (λ (n : List ℕ). (n, empty_file_system)) (sym (its_name rows c.self.invariant.sorted c.args.name.now c.in-Ok.place at row is)) in

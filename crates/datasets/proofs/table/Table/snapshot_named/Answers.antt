@@ -17,4 +17,4 @@ returns-clause-place c =
     (placed t m c.in_ok-file_system.file_system.now c.in_ok-snapshot.snapshot.now
     (ap (λ x. option_copied x) (sym c.in_ok-file_system.was) ∙ c.find.ensures)
     (ap (λ x. option_copied x) (sym c.in_ok-snapshot.was) ∙ c.snapshot_named.ensures
-    ∙ ap (λ n. find (λ (v : Snap). same_name v.name n) c.in_ok-file_system.file_system.now.system.snaps) c.as_bytes.ensures))
+    ∙ ap (λ n. find (λ (v : Snap). same_name v.name n) c.in_ok-file_system.file_system.now.system.snaps) c.as_bytes.ensures.value))

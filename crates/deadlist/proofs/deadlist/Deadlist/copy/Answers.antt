@@ -12,10 +12,10 @@ returns-clause-entries c =
     rw (c.in_ok-parts.ensures.closed, c.in_ok-parts.ensures.last, c.in_ok-fresh.ensures.items, c.as_slice.ensures.value) (ap (λ (h : Held). h.entries) c.self.view_is)
 
 pub returns-in_err-parts-clause-meter : goal.returns-in_err-parts-clause-meter
-returns-in_err-parts-clause-meter c = c.reach.ensures ∙ ap (counted c.args.meter.now) c.segments.ensures.count
+returns-in_err-parts-clause-meter c = c.reach.ensures.metered ∙ ap (counted c.args.meter.now) c.segments.ensures.count
 
 pub returns-in_err-fresh-clause-meter : goal.returns-in_err-fresh-clause-meter
-returns-in_err-fresh-clause-meter c = c.reach.ensures ∙ ap (counted c.args.meter.now) c.segments.ensures.count
+returns-in_err-fresh-clause-meter c = c.reach.ensures.metered ∙ ap (counted c.args.meter.now) c.segments.ensures.count
 
 pub returns-clause-meter : goal.returns-clause-meter
-returns-clause-meter c = c.reach.ensures ∙ ap (counted c.args.meter.now) c.segments.ensures.count
+returns-clause-meter c = c.reach.ensures.metered ∙ ap (counted c.args.meter.now) c.segments.ensures.count

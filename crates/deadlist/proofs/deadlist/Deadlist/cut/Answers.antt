@@ -22,7 +22,7 @@ returns-in_err-cut-clause-meter c =
       | else-not-stands w ↦ w.meter-is ∙ none
     ])
     (λ f. elim c.if-not-stands.branch [
-      | then-not-stands w ↦ w.meter-is ∙ w.add_one.ensures
+      | then-not-stands w ↦ w.meter-is ∙ w.add_one.ensures.metered
       | else-not-stands w ↦ absurd (false≢true (sym f ∙ w.if-not-stands.false))
     ]))
 
@@ -39,7 +39,7 @@ returns-clause-meter c =
       | else-not-stands w ↦ w.meter-is ∙ none
     ])
     (λ f. elim c.if-not-stands.branch [
-      | then-not-stands w ↦ w.meter-is ∙ w.add_one.ensures
+      | then-not-stands w ↦ w.meter-is ∙ w.add_one.ensures.metered
       | else-not-stands w ↦ absurd (false≢true (sym f ∙ w.if-not-stands.false))
     ]))
 
@@ -68,3 +68,17 @@ returns-in_err-cut-clause-stands c =
 pub returns-clause-cuts : goal.returns-clause-cuts
 returns-clause-cuts c =
     c.in_ok-cut.ensures.cuts ∙ ap (λ (h : Held). with_cut c.args.group.0 h.cuts) c.self.view_is
+
+pub returns-in_err-cut-clause-never_lower : goal.returns-in_err-cut-clause-never_lower
+returns-in_err-cut-clause-never_lower c =
+    elim c.if-not-stands.branch [
+      | then-not-stands w ↦ omega (arith, w.meter-is, w.add_one.ensures.never_lower)
+      | else-not-stands w ↦ omega (arith, w.meter-is)
+    ]
+
+pub returns-clause-never_lower : goal.returns-clause-never_lower
+returns-clause-never_lower c =
+    elim c.if-not-stands.branch [
+      | then-not-stands w ↦ omega (arith, w.meter-is, w.add_one.ensures.never_lower)
+      | else-not-stands w ↦ omega (arith, w.meter-is)
+    ]

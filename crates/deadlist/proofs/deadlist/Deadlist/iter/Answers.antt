@@ -10,4 +10,4 @@ returns-clause-entries c =
     c.new.ensures ∙ ap (λ (ds : List Dead). entries_of c.self.inside.parts ++ ds) c.as_slice.ensures.value ∙ ap (λ (h : Held). h.entries) c.self.view_is
 
 pub returns-clause-meter : goal.returns-clause-meter
-returns-clause-meter c = c.reach.ensures ∙ ap (counted c.args.meter.now) c.segments.ensures.count
+returns-clause-meter c = c.reach.ensures.metered ∙ ap (counted c.args.meter.now) c.segments.ensures.count

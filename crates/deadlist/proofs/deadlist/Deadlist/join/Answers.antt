@@ -14,7 +14,7 @@ returns-in_err-join-clause-meter c =
     let none = counted_none old (omega (arith, e, small)) in
     rw (← c.self.view_is) (counted_standing p.closed.items c.args.group.0 old c.if-stands.meter 2 0 c.stands.result c.stands.ensures
     (λ t. elim c.if-stands.branch [
-      | then-stands w ↦ w.meter-is ∙ w.reach.ensures
+      | then-stands w ↦ w.meter-is ∙ w.reach.ensures.metered
       | else-stands w ↦ absurd (false≢true (sym w.if-stands.false ∙ t))
     ])
     (λ f. elim c.if-stands.branch [
@@ -31,7 +31,7 @@ returns-clause-meter c =
     let none = counted_none old (omega (arith, e, small)) in
     rw (← c.self.view_is) (counted_standing p.closed.items c.args.group.0 old c.if-stands.meter 2 0 c.stands.result c.stands.ensures
     (λ t. elim c.if-stands.branch [
-      | then-stands w ↦ w.meter-is ∙ w.reach.ensures
+      | then-stands w ↦ w.meter-is ∙ w.reach.ensures.metered
       | else-stands w ↦ absurd (false≢true (sym w.if-stands.false ∙ t))
     ])
     (λ f. elim c.if-stands.branch [
@@ -43,3 +43,17 @@ pub returns-in_err-join-clause-absent : goal.returns-in_err-join-clause-absent
 returns-in_err-join-clause-absent c =
     let p = c.self.inside.parts in
     rw (← c.self.view_is) (λ h. absurd (false≢true (c.in_err-join.ensures.absent (has_cut_any p.closed.items c.args.group.0 ∙ h))))
+
+pub returns-in_err-join-clause-never_lower : goal.returns-in_err-join-clause-never_lower
+returns-in_err-join-clause-never_lower c =
+    elim c.if-stands.branch [
+      | then-stands w ↦ omega (arith, w.meter-is, w.reach.ensures.never_lower)
+      | else-stands w ↦ omega (arith, w.meter-is)
+    ]
+
+pub returns-clause-never_lower : goal.returns-clause-never_lower
+returns-clause-never_lower c =
+    elim c.if-stands.branch [
+      | then-stands w ↦ omega (arith, w.meter-is, w.reach.ensures.never_lower)
+      | else-stands w ↦ omega (arith, w.meter-is)
+    ]

@@ -5,4 +5,4 @@ use Rattle.deadlist.specs.Segments.{reached_upto}
 use Rattle.deadlist.proofs.deadlist.Deadlist.space_upto.Goals as goal
 
 pub returns-clause-meter : goal.returns-clause-meter
-returns-clause-meter c = c.reach.ensures ∙ ap (counted c.args.meter.now) (c.reached_upto.ensures ∙ ap (λ (h : Held). reached_upto c.args.cut.0 h.cuts) c.self.view_is)
+returns-clause-meter c = c.reach.ensures.metered ∙ ap (counted c.args.meter.now) (c.reached_upto.ensures ∙ ap (λ (h : Held). reached_upto c.args.cut.0 h.cuts) c.self.view_is)

@@ -30,8 +30,8 @@ around_of-around-requires-clause-rising c =
     subst (λ l. AreRising 0 (snaps_in l)) (sym kept) (rising_from 0 base (snaps_in ks) (omega arith) rising)
 
 -- the younger entries of the next dead list
-pub returns : goal.returns
-returns c =
+pub returns-clause-count : goal.returns-clause-count
+returns-clause-count c =
     let ks = arc_value c.self.inside.snapshots in
     let es = (arc_value c.self.inside.dead).entries in
     let live = c.self.inside.live in

@@ -35,7 +35,7 @@ unreachable-requires c =
     let k = rows_count c.args.table.now.file_systems c.file_systems.result.now c.file_systems.ensures in
     has_parent own.0 (world_of c.args.table.now) own.1 c.args.name.now own.3 c.self.inside.lines.items (c.self.view_is ∙ own.2) c.args.gap c.requires.gone
     (λ same. c.if-len-file_systems.false (omega (arith, o, k, same)))
-    (ap parent_name (sym c.as_bytes.ensures) ∙ sym c.parent_of.ensures ∙ ap (λ x. option_copied x) c.in_default.is)
+    (ap parent_name (sym c.as_bytes.ensures.value) ∙ sym c.parent_of.ensures ∙ ap (λ x. option_copied x) c.in_default.is)
 
 pub unreachable-requires-in_default-place_seen : goal.unreachable-requires-in_default-place_seen
 unreachable-requires-in_default-place_seen c =
@@ -44,7 +44,7 @@ unreachable-requires-in_default-place_seen c =
     let k = rows_count c.args.table.now.file_systems c.file_systems.result.now c.file_systems.ensures in
     parent_left own.0 (world_of c.args.table.now) own.1 c.args.name.now own.3 c.self.inside.lines.items (c.self.view_is ∙ own.2) c.args.gap c.requires.gone
     (λ same. c.if-len-file_systems.false (omega (arith, o, k, same))) c.in-Some.parent.now
-    (ap parent_name (sym c.as_bytes.ensures) ∙ sym c.parent_of.ensures ∙ ap (λ x. option_copied x) c.in-Some.is)
+    (ap parent_name (sym c.as_bytes.ensures.value) ∙ sym c.parent_of.ensures ∙ ap (λ x. option_copied x) c.in-Some.is)
     c.in_default-place_seen.ensures.none
 
 pub index-above-requires : goal.index-above-requires
@@ -73,7 +73,7 @@ overflow_sub-line c =
     let k = rows_count c.args.table.now.file_systems c.file_systems.result.now c.file_systems.ensures in
     let l = charged_low own.0 (world_of c.args.table.now) own.1 c.args.name.now own.3 c.self.inside.lines.items (c.self.view_is ∙ own.2) c.args.gap c.requires.gone
     (λ same. c.if-len-file_systems.false (omega (arith, o, k, same))) c.in-Some.parent.now
-    (ap parent_name (sym c.as_bytes.ensures) ∙ sym c.parent_of.ensures ∙ ap (λ x. option_copied x) c.in-Some.is)
+    (ap parent_name (sym c.as_bytes.ensures.value) ∙ sym c.parent_of.ensures ∙ ap (λ x. option_copied x) c.in-Some.is)
     c.in-Some-place_seen.place c.in-Some-place_seen.ensures.some c.remove-gone.new.self.items c.remove-gone.ensures.items c.remove-gone.result c.remove-gone.ensures.value
     c.index-above.result.now c.index-above.ensures in
     let v = c.charge.ensures.value in
@@ -93,7 +93,7 @@ settle_at-requires-clause-can c =
     let k = rows_count c.args.table.now.file_systems c.file_systems.result.now c.file_systems.ensures in
     let modest = subst (All IsModest) (sym c.remove-gone.ensures.items) (all_left IsModest c.self.inside.lines.items c.args.gap c.self.invariant.1) in
     let other : length c.self.inside.lines.items ≡ length (keys c.args.table.now.file_systems) → ⊥ = λ same. c.if-len-file_systems.false (omega (arith, o, k, same)) in
-    let named = ap parent_name (sym c.as_bytes.ensures) ∙ sym c.parent_of.ensures ∙ ap (λ x. option_copied x) c.in-Some.is in
+    let named = ap parent_name (sym c.as_bytes.ensures.value) ∙ sym c.parent_of.ensures ∙ ap (λ x. option_copied x) c.in-Some.is in
     can_leave own.0 (world_of c.args.table.now) own.1 c.args.name.now own.3 c.self.inside.lines.items (c.self.view_is ∙ own.2) c.args.gap c.requires.gone
     other c.in-Some.parent.now named
     c.in-Some-place_seen.place c.in-Some-place_seen.ensures.some c.remove-gone.new.self.items c.remove-gone.ensures.items c.remove-gone.result c.remove-gone.ensures.value
@@ -110,7 +110,7 @@ settle_at-requires-clause-little c =
     let k = rows_count c.args.table.now.file_systems c.file_systems.result.now c.file_systems.ensures in
     rest_little own.0 (world_of c.args.table.now) own.1 c.args.name.now own.3 c.self.inside.lines.items (c.self.view_is ∙ own.2) c.args.gap c.requires.gone
     (λ same. c.if-len-file_systems.false (omega (arith, o, k, same))) c.in-Some.parent.now
-    (ap parent_name (sym c.as_bytes.ensures) ∙ sym c.parent_of.ensures ∙ ap (λ x. option_copied x) c.in-Some.is)
+    (ap parent_name (sym c.as_bytes.ensures.value) ∙ sym c.parent_of.ensures ∙ ap (λ x. option_copied x) c.in-Some.is)
     c.in-Some-place_seen.place c.in-Some-place_seen.ensures.some c.remove-gone.new.self.items c.remove-gone.ensures.items c.remove-gone.result c.remove-gone.ensures.value
     c.index-above.result.now c.index-above.ensures c.charge.result c.charge.ensures.value (subst (All IsModest) (c.self.view_is ∙ own.2) c.self.invariant.1)
 
@@ -122,6 +122,6 @@ returns c =
     c.settle_at.ensures (world_of c.args.table.now)
     (leave_behind own.0 (world_of c.args.table.now) own.1 c.args.name.now own.3 c.self.inside.lines.items (c.self.view_is ∙ own.2) c.args.gap c.requires.gone
     (λ same. c.if-len-file_systems.false (omega (arith, o, k, same))) c.in-Some.parent.now
-    (ap parent_name (sym c.as_bytes.ensures) ∙ sym c.parent_of.ensures ∙ ap (λ x. option_copied x) c.in-Some.is)
+    (ap parent_name (sym c.as_bytes.ensures.value) ∙ sym c.parent_of.ensures ∙ ap (λ x. option_copied x) c.in-Some.is)
     c.in-Some-place_seen.place c.in-Some-place_seen.ensures.some c.remove-gone.new.self.items c.remove-gone.ensures.items c.remove-gone.result c.remove-gone.ensures.value
     c.index-above.result.now c.index-above.ensures c.charge.result c.charge.ensures.value)

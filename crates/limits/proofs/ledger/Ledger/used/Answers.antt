@@ -9,5 +9,5 @@ use Rattle.limits.proofs.ledger.Ledger.used.Goals as goal
 pub returns-clause-value : goal.returns-clause-value
 returns-clause-value c =
     let f = line_found c.args.table.now c.as_bytes.result.now c.line.result.now
-    (subst (λ n. IsSome (get c.args.table.now.file_systems n)) (sym c.as_bytes.ensures) c.requires.there) c.line.ensures.value in
-    c.used.ensures ∙ used_is c.args.table.now c.as_bytes.result.now f.0 c.line.result.now f.2 ∙ ap (used_of (world_of c.args.table.now)) c.as_bytes.ensures
+    (subst (λ n. IsSome (get c.args.table.now.file_systems n)) (sym c.as_bytes.ensures.value) c.requires.there) c.line.ensures.value in
+    c.used.ensures ∙ used_is c.args.table.now c.as_bytes.result.now f.0 c.line.result.now f.2 ∙ ap (used_of (world_of c.args.table.now)) c.as_bytes.ensures.value

@@ -45,7 +45,7 @@ returns-then-clones-eq0-clause-ok c =
     let s = lost_from (blocks c.args.file_system.now.below) c.args.file_system.now.system.snaps c.args.file_system.now.system.live c.group-group.result.0 in
     alone_counted c.args.table.now sound c.args.file_system.now c.args.snapshot.now c.requires c.group-group.result.0 c.group-group.ensures
     (map name_of c.clones_of-clones.result.now) (snap_id c.id.result) c.id.ensures c.clones_of-clones.ensures s refl
-    s (ap (struck c.args.table.now s) (sym (no_name c.clones_of-clones.result.now c.if-clones-eq0.true))) c.alone_count.result c.alone_count.ensures
+    s (ap (struck c.args.table.now s) (sym (no_name c.clones_of-clones.result.now c.if-clones-eq0.true))) c.alone_count.result c.alone_count.ensures.count
 
 pub remove_all_of_clones-requires : goal.remove_all_of_clones-requires
 remove_all_of_clones-requires c n i =

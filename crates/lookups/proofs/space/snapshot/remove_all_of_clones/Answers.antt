@@ -1,4 +1,4 @@
-use Rattle.std.proofs.Common.{map, sym, ap, subst, ◌∙◌}
+use Rattle.std.proofs.Common.{map, sym, ap, subst, ◌∙◌, arith}
 use Rattle.std.specs.FinMap.{get}
 use Rattle.std.specs.Option.{option_copied}
 use Rattle.world.specs.Sets.{Has}
@@ -34,4 +34,5 @@ loop-clone-preserved c =
           (struck c.args.table.now c.args.alone.now (map name_of c.args.clones.now)) c.loop-clone.alone c.strike.new.alone c.loop-clone.invariant.so_far
           c.in-Some.file_system.now.system (ap (get c.args.table.now.file_systems) (sym c.name.ensures) ∙ p.0) is;
       within = λ b h. c.loop-clone.invariant.within b (from_difference o c.loop-clone.alone (oldest_blocks c.in-Some.file_system.now.system.live c.in-Some.file_system.now.system.snaps) b (subst (λ s. Has s b) is h)).0;
+      never_lower = omega (arith, c.loop-clone.invariant.never_lower, c.in_ok-strike.ensures.never_lower);
     }

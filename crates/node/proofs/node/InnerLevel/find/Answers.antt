@@ -13,7 +13,7 @@ returns-in-Some-clause-found g c =
 pub returns-in-Some-clause-metered : goal.returns-in-Some-clause-metered
 returns-in-Some-clause-metered g c =
     let at = part_there (shared_part g.C.Level.part) c.args.self.now.kids c.step-place.result.0 _ _ c.owner.ensures c.in-Some.is in
-    rw (steps_below-deep _ _ _ c.if-depth-eq0.false, ← c.step-place.ensures.place, at, ← c.step-place.ensures.rest, ← c.deref.ensures, ← counted-counted, ← c.add_one.ensures) c.find.ensures.metered
+    rw (steps_below-deep _ _ _ c.if-depth-eq0.false, ← c.step-place.ensures.place, at, ← c.step-place.ensures.rest, ← c.deref.ensures, ← counted-counted, ← c.add_one.ensures.metered) c.find.ensures.metered
 
 pub returns-in-None-clause-found : goal.returns-in-None-clause-found
 returns-in-None-clause-found g c =
@@ -23,4 +23,4 @@ returns-in-None-clause-found g c =
 pub returns-in-None-clause-metered : goal.returns-in-None-clause-metered
 returns-in-None-clause-metered g c =
     let at = part_missing (shared_part g.C.Level.part) c.args.self.now.kids c.step-place.result.0 _ c.owner.ensures c.in-None.is in
-    rw (steps_below-deep _ _ _ c.if-depth-eq0.false, ← c.step-place.ensures.place, at) c.add_one.ensures
+    rw (steps_below-deep _ _ _ c.if-depth-eq0.false, ← c.step-place.ensures.place, at) c.add_one.ensures.metered

@@ -12,6 +12,8 @@ answer-requires-clause-reads c = (only_reads c.args.request.now c.requires.quest
 
 pub returns-clause-metered : goal.returns-clause-metered
 returns-clause-metered c = record {
+  never_lower = c.answer.ensures.never_lower;
+  segments_never_lower = c.answer.ensures.segments_never_lower;
   nodes = λ none. c.answer.ensures.nodes none.0;
   segments = λ none. (only_reads c.args.request.now c.requires.question).1 none c.args.world.now.table c.answer.new.reply c.args.meters.now.segments c.answer.new.segments c.answer.ensures.segments;
   read = λ is. c.answer.ensures.segments;

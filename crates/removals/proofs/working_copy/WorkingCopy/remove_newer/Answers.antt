@@ -1,4 +1,4 @@
-use Rattle.std.proofs.Common.{◌≡◌, Bor, true, ◌&&◌, List, ◌∷◌, ◌++◌, map, sym, ap, ◌∙◌, is_gt, nat_cmp}
+use Rattle.std.proofs.Common.{◌≡◌, Bor, true, ◌&&◌, List, ◌∷◌, ◌++◌, map, sym, ap, ◌∙◌, is_gt, nat_cmp, arith}
 use Rattle.shared_list.specs.Left.{left}
 use Rattle.datasets.specs.Dead.{snaps_in}
 use Rattle.datasets.specs.Holders.{snap_in_system}
@@ -16,7 +16,7 @@ use Rattle.removals.proofs.Yielded.{newer_there, newer_yielded, newer_goes, olde
 use Rattle.removals.proofs.working_copy.WorkingCopy.remove_newer.Goals as goal
 
 pub loop-kept-init : goal.loop-kept-init
-loop-kept-init c = record { so_far = sym (ids_none c.args.self.now.to); lost = lost_none c.args.self.now.to c.args.self.now.freeing c.requires.apart }
+loop-kept-init c = record { so_far = sym (ids_none c.args.self.now.to); lost = lost_none c.args.self.now.to c.args.self.now.freeing c.requires.apart; never_lower = omega arith }
 
 pub remove_snapshot-requires : goal.remove_snapshot-requires
 remove_snapshot-requires c =
@@ -49,6 +49,7 @@ loop-kept-preserved-in-Continue-1 c = record {
       (c.in_ok-remove_snapshot.ensures.ok ∙ ap (without_snap c.loop-kept.self.to) c.id.ensures);
   lost = lost_then c.args.self.now.to c.loop-kept.self.to c.remove_snapshot.new.self.to c.args.self.now.freeing c.loop-kept.self.freeing c.remove_snapshot.new.self.freeing
       c.loop-kept.invariant.lost c.in_ok-remove_snapshot.ensures.lost;
+  never_lower = omega (arith, c.loop-kept.invariant.never_lower, c.in_ok-remove_snapshot.ensures.never_lower);
 }
 
 pub loop-kept-preserved : goal.loop-kept-preserved
@@ -56,6 +57,7 @@ loop-kept-preserved c = record {
   so_far = older_stays c.args.self.now.to c.loop-kept.self.to c.args.group.0 c.loop-kept.yielded c.in-Some.kept c.loop-kept.invariant.so_far
       (sym (gt_is c.in-Some.kept.now.snapshot.group c.args.group.0) ∙ ap (λ n. is_gt (nat_cmp n c.args.group.0)) (sym c.group.ensures) ∙ sym c.gt.ensures ∙ c.if-gt.false);
   lost = c.loop-kept.invariant.lost;
+  never_lower = c.loop-kept.invariant.never_lower;
 }
 
 pub returns-clause-ok : goal.returns-clause-ok

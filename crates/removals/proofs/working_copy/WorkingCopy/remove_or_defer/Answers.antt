@@ -20,6 +20,7 @@ pub loop-found-init : goal.loop-found-init
 loop-found-init c = record {
   so_far = c.requires.same ∙ sym (parted_none c.args.table.now c.facts.ensures.good (λ u. c.args.defer && is_needed (world_of c.args.table.now) c.args.views.now.opened u));
   lost = lost_none c.args.self.now.to c.args.self.now.freeing c.requires.apart;
+  never_lower = omega arith;
 }
 
 pub defer-requires : goal.defer-requires
@@ -78,6 +79,7 @@ loop-found-preserved c =
             lost = subst (λ (e : WorkingCopy). HasLost from.to from.freeing e.to e.freeing) (sym w.self-is)
                 (subst (λ f. HasLost from.to from.freeing w.defer.new.self.to f) (sym w.in_ok-defer.ensures.same)
                 (lost_deferred from.to u w.defer.new.self.to from.freeing c.loop-found.self.freeing (id_of p.1) goes c.loop-found.invariant.lost));
+            never_lower = rw w.segments-is c.loop-found.invariant.never_lower;
           }
       | else-has_to_wait+in_ok-remove_snapshot w ↦ record {
         so_far = ap (λ (e : WorkingCopy). e.to) w.self-is ∙ w.in_ok-remove_snapshot.ensures.ok ∙ (λ i. without_snap (c.loop-found.invariant.so_far i) (id i))
@@ -85,6 +87,7 @@ loop-found-preserved c =
             ∙ ap (removed_or_deferred t needed) (sym more);
         lost = subst (λ (e : WorkingCopy). HasLost from.to from.freeing e.to e.freeing) (sym w.self-is)
             (lost_then from.to u w.remove_snapshot.new.self.to from.freeing c.loop-found.self.freeing w.remove_snapshot.new.self.freeing c.loop-found.invariant.lost w.in_ok-remove_snapshot.ensures.lost);
+        never_lower = omega (arith, w.segments-is, c.loop-found.invariant.never_lower, w.in_ok-remove_snapshot.ensures.never_lower);
       }
     ]
 

@@ -11,7 +11,7 @@ abbrev no_id : SnapshotId
 no_id = record { group = record { 0 = 0 }; guid = record { 0 = 0 } }
 
 pub loop-id-init : goal.loop-id-init
-loop-id-init c = record { so_far = refl; lost = lost_none c.args.self.now.to c.args.self.now.freeing c.requires.apart }
+loop-id-init c = record { so_far = refl; lost = lost_none c.args.self.now.to c.args.self.now.freeing c.requires.apart; never_lower = omega arith }
 
 pub loop-id-preserved : goal.loop-id-preserved
 loop-id-preserved c =
@@ -21,6 +21,7 @@ loop-id-preserved c =
           ∙ ap (λ l. without_each c.loop-id.self.to views (map snap_id l)) (sym (drop-cons c.args.ids.now c.loop-id.id-index no_id c.loop-id-test.true ∙ ap (λ n. get_or c.args.ids.now c.loop-id.id-index no_id ∷ drop n c.args.ids.now) (sym (add-one c.loop-id.id-index))))
           ∙ c.loop-id.invariant.so_far;
       lost = lost_then c.args.self.now.to c.loop-id.self.to c.lose_unneeded.new.edit.to c.args.self.now.freeing c.loop-id.self.freeing c.lose_unneeded.new.edit.freeing c.loop-id.invariant.lost c.in_ok-lose_unneeded.ensures.lost;
+      never_lower = omega (arith, c.loop-id.invariant.never_lower, c.in_ok-lose_unneeded.ensures.never_lower);
     }
 
 pub returns-clause-ok : goal.returns-clause-ok

@@ -1,4 +1,4 @@
-use Rattle.std.proofs.Common.{◌≡◌, drop, map}
+use Rattle.std.proofs.Common.{◌≡◌, drop, map, ◌≤◌}
 use Rattle.model.specs.Ids.{snap_id}
 use Rattle.removals.specs.Edits.{HasLost}
 use Rattle.removals.proofs.Swept.{without_each}
@@ -9,4 +9,5 @@ abbrev pub invariant-loop-id : goal.invariant-loop-id
 invariant-loop-id l = record {
   so_far : without_each l.self.to l.views.opened (map snap_id (drop l.id-index l.ids)) ≡ without_each l.initial.self.to l.views.opened (map snap_id l.ids);
   lost : HasLost l.initial.self.to l.initial.self.freeing l.self.to l.self.freeing;
+  never_lower : l.fn.segments ≤ l.segments;
 }

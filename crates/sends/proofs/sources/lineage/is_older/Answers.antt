@@ -16,36 +16,36 @@ pub returns-in_default : goal.returns-in_default
 returns-in_default c =
     let sound : IsTable c.args.table.now = record { systems = c.facts.ensures.good; numbers = c.facts.ensures.numbers } in
     sym (ends c.args.table.now sound (Snapped (id_of c.args.snapshot.now)) (snap_id c.args.older) c.args.owner.now c.requires.home c.lineage.passed.now c.lineage.until.0 c.lineage.invariant
-    (sym (named_is _ c.is_named.ensures c.as_bytes.ensures) ∙ c.lineage-test.true) (sym c.origin.ensures ∙ ap (option_map snap_id) c.in_default.is))
+    (sym (named_is _ c.is_named.ensures c.as_bytes.ensures.value) ∙ c.lineage-test.true) (sym c.origin.ensures ∙ ap (option_map snap_id) c.in_default.is))
 
 pub returns-then-origin-older : goal.returns-then-origin-older
 returns-then-origin-older c =
     let sound : IsTable c.args.table.now = record { systems = c.facts.ensures.good; numbers = c.facts.ensures.numbers } in
     c.is_same.ensures
     ∙ sym (stops c.args.table.now sound (Snapped (id_of c.args.snapshot.now)) (snap_id c.args.older) c.args.owner.now c.requires.home c.lineage.passed.now c.lineage.until.0 c.lineage.invariant
-    (sym (named_is _ c.is_named.ensures c.as_bytes.ensures) ∙ c.lineage-test.true) (snap_id c.in-Some.origin) (sym c.origin.ensures ∙ ap (option_map snap_id) c.in-Some.is) c.if-origin-older.true)
+    (sym (named_is _ c.is_named.ensures c.as_bytes.ensures.value) ∙ c.lineage-test.true) (snap_id c.in-Some.origin) (sym c.origin.ensures ∙ ap (option_map snap_id) c.in-Some.is) c.if-origin-older.true)
 
 pub unreachable-requires : goal.unreachable-requires
 unreachable-requires c =
     let sound : IsTable c.args.table.now = record { systems = c.facts.ensures.good; numbers = c.facts.ensures.numbers } in
     origin_found c.args.table.now sound (Snapped (id_of c.args.snapshot.now)) (snap_id c.args.older) c.args.owner.now c.requires.home c.lineage.passed.now c.lineage.until.0 c.lineage.invariant
-    (sym (named_is _ c.is_named.ensures c.as_bytes.ensures) ∙ c.lineage-test.true) (snap_id c.in-Some.origin) (sym c.origin.ensures ∙ ap (option_map snap_id) c.in-Some.is) (sym c.in_default-snapshot_of.ensures.found)
+    (sym (named_is _ c.is_named.ensures c.as_bytes.ensures.value) ∙ c.lineage-test.true) (snap_id c.in-Some.origin) (sym c.origin.ensures ∙ ap (option_map snap_id) c.in-Some.is) (sym c.in_default-snapshot_of.ensures.found)
 
 pub lineage-smaller : goal.lineage-smaller
 lineage-smaller c =
     let sound : IsTable c.args.table.now = record { systems = c.facts.ensures.good; numbers = c.facts.ensures.numbers } in
     falls c.args.table.now sound (Snapped (id_of c.args.snapshot.now)) (snap_id c.args.older) c.args.owner.now c.requires.home c.lineage.passed.now c.lineage.until.0 c.lineage.invariant
-    (sym (named_is _ c.is_named.ensures c.as_bytes.ensures) ∙ c.lineage-test.true) (snap_id c.in-Some.origin) (sym c.origin.ensures ∙ ap (option_map snap_id) c.in-Some.is) c.facts.ensures.snapshots_closed
+    (sym (named_is _ c.is_named.ensures c.as_bytes.ensures.value) ∙ c.lineage-test.true) (snap_id c.in-Some.origin) (sym c.origin.ensures ∙ ap (option_map snap_id) c.in-Some.is) c.facts.ensures.snapshots_closed
 
 pub lineage-preserved : goal.lineage-preserved
 lineage-preserved c =
     let sound : IsTable c.args.table.now = record { systems = c.facts.ensures.good; numbers = c.facts.ensures.numbers } in
     goes_on c.args.table.now sound (Snapped (id_of c.args.snapshot.now)) (snap_id c.args.older) c.args.owner.now c.requires.home c.lineage.passed.now c.lineage.until.0 c.lineage.invariant
-    (sym (named_is _ c.is_named.ensures c.as_bytes.ensures) ∙ c.lineage-test.true) (snap_id c.in-Some.origin) (sym c.origin.ensures ∙ ap (option_map snap_id) c.in-Some.is)
+    (sym (named_is _ c.is_named.ensures c.as_bytes.ensures.value) ∙ c.lineage-test.true) (snap_id c.in-Some.origin) (sym c.origin.ensures ∙ ap (option_map snap_id) c.in-Some.is)
     c.if-origin-older.false c.in-Some-snapshot_of.next.now c.in-Some-snapshot_of.field-0-1.now c.in-Some-snapshot_of.ensures.place.0 c.in-Some-snapshot_of.ensures.place.1
 
 pub returns : goal.returns
 returns c =
     let sound : IsTable c.args.table.now = record { systems = c.facts.ensures.good; numbers = c.facts.ensures.numbers } in
     sym (compares c.args.table.now sound (Snapped (id_of c.args.snapshot.now)) (snap_id c.args.older) c.args.owner.now c.requires.home c.lineage.passed.now c.lineage.until.0 c.lineage.invariant
-    (sym (named_is _ c.is_named.ensures c.as_bytes.ensures) ∙ c.lineage-test.false))
+    (sym (named_is _ c.is_named.ensures c.as_bytes.ensures.value) ∙ c.lineage-test.false))

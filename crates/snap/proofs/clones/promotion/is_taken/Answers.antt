@@ -11,5 +11,5 @@ returns c =
     c.is_some.ensures
     ∙ copied_some c.snapshot_named.result
     ∙ ap (λ x. is_some x) c.snapshot_named.ensures
-    ∙ ap (λ n. is_some (find (λ (u : Snap). same_name u.name n) c.args.file_system.now.system.snaps)) c.as_bytes.ensures
+    ∙ ap (λ n. is_some (find (λ (u : Snap). same_name u.name n) c.args.file_system.now.system.snaps)) c.as_bytes.ensures.value
     ∙ is_found (λ (u : Snap). same_name u.name c.args.component.now) c.args.file_system.now.system.snaps

@@ -20,14 +20,14 @@ set_shared-requires c =
 
 -- its name is in the index
 pub forget-requires : goal.forget-requires
-forget-requires c = index_has c.self.inside.by_name c.self.inside.kept c.args.place c.as_bytes.result.now c.self.invariant (c.in_ok-name.ensures.ok ∙ ap Some (sym c.as_bytes.ensures))
+forget-requires c = index_has c.self.inside.by_name c.self.inside.kept c.args.place c.as_bytes.result.now c.self.invariant (c.in_ok-name.ensures.ok ∙ ap Some (sym c.as_bytes.ensures.value))
 
 -- so is that of the one after it
 pub replace-requires : goal.replace-requires
 replace-requires c =
     let ks = c.self.inside.kept in
     let once : AreNamesOnce ks = subst AreNamesOnce (sym c.self.view_is) c.requires.once in
-    let left : IsIndex c.forget.new.by_name (remove ks c.args.place) = c.forget.ensures ks c.args.place (c.in_ok-name.ensures.ok ∙ ap Some (sym c.as_bytes.ensures)) once c.self.invariant in
+    let left : IsIndex c.forget.new.by_name (remove ks c.args.place) = c.forget.ensures ks c.args.place (c.in_ok-name.ensures.ok ∙ ap Some (sym c.as_bytes.ensures.value)) once c.self.invariant in
     let next : option_map (λ (k : Kept). k.snapshot.name) (slice_get ks (c.args.place + 1)) ≡ Some (arc_value c.in_ok-next.next).snapshot.name =
     ap (λ l. option_map (λ (k : Kept). k.snapshot.name) (slice_get l (c.args.place + 1))) c.self.view_is ∙ c.requires.next ∙ ap (λ (k : Kept). Some k.snapshot.name) (sym c.in_ok-next.ensures.ok) in
     index_has c.forget.new.by_name (remove ks c.args.place) c.args.place (arc_value c.in_ok-next.next).snapshot.name left (named_after ks c.args.place (arc_value c.in_ok-next.next).snapshot.name next)
@@ -37,7 +37,7 @@ pub invariant_of-self : goal.invariant_of-self
 invariant_of-self c =
     let ks = c.self.inside.kept in
     let once : AreNamesOnce ks = subst AreNamesOnce (sym c.self.view_is) c.requires.once in
-    let left : IsIndex c.forget.new.by_name (remove ks c.args.place) = c.forget.ensures ks c.args.place (c.in_ok-name.ensures.ok ∙ ap Some (sym c.as_bytes.ensures)) once c.self.invariant in
+    let left : IsIndex c.forget.new.by_name (remove ks c.args.place) = c.forget.ensures ks c.args.place (c.in_ok-name.ensures.ok ∙ ap Some (sym c.as_bytes.ensures.value)) once c.self.invariant in
     let next : option_map (λ (k : Kept). k.snapshot.name) (slice_get ks (c.args.place + 1)) ≡ Some (arc_value c.in_ok-next.next).snapshot.name =
     ap (λ l. option_map (λ (k : Kept). k.snapshot.name) (slice_get l (c.args.place + 1))) c.self.view_is ∙ c.requires.next ∙ ap (λ (k : Kept). Some k.snapshot.name) (sym c.in_ok-next.ensures.ok) in
     let put : c.set_shared.new.self ≡ set (remove ks c.args.place) c.args.place (arc_value c.in_ok-next.next) =

@@ -27,7 +27,7 @@ returns-in-Some-clause-metered g c =
     let place : c.step-place.result.0 ≡ c.args.at / 16 ^ (c.args.level - 1) = c.step-place.ensures.place ∙ ap (λ n. c.args.at / 16 ^ (n - 1)) c.from.ensures in
     let rest : c.step-place.result.1 ≡ c.args.at % 16 ^ (c.args.level - 1) = c.step-place.ensures.rest ∙ ap (λ n. c.args.at % 16 ^ (n - 1)) c.from.ensures in
     let at = part_there (shared_part g.C.Level.part) c.args.self.now.kids c.step-place.result.0 _ _ c.owner.ensures c.in-Some.is in
-    rw (steps_below-deep c.args.level _ _ (λ e. omega (arith, e, c.requires.level)), ← place, at, ← rest, ← c.deref.ensures, ← counted-counted, ← c.add_one.ensures) c.trace.ensures.metered
+    rw (steps_below-deep c.args.level _ _ (λ e. omega (arith, e, c.requires.level)), ← place, at, ← rest, ← c.deref.ensures, ← counted-counted, ← c.add_one.ensures.metered) c.trace.ensures.metered
 
 pub returns-in-None-clause-traced : goal.returns-in-None-clause-traced
 returns-in-None-clause-traced g c =
@@ -41,4 +41,4 @@ pub returns-in-None-clause-metered : goal.returns-in-None-clause-metered
 returns-in-None-clause-metered g c =
     let place : c.step-place.result.0 ≡ c.args.at / 16 ^ (c.args.level - 1) = c.step-place.ensures.place ∙ ap (λ n. c.args.at / 16 ^ (n - 1)) c.from.ensures in
     let at = part_missing (shared_part g.C.Level.part) c.args.self.now.kids c.step-place.result.0 _ c.owner.ensures c.in-None.is in
-    rw (steps_below-deep c.args.level _ _ (λ e. omega (arith, e, c.requires.level)), ← place, at) c.add_one.ensures
+    rw (steps_below-deep c.args.level _ _ (λ e. omega (arith, e, c.requires.level)), ← place, at) c.add_one.ensures.metered

@@ -8,5 +8,5 @@ pub invariant_of-self-2 : goal.invariant_of-self-2
 invariant_of-self-2 c =
     let tag = c.as_bytes-2.result.now in
     put_sound c.put.result (texts c.self.inside.tags.keys) (texts c.put.new.tags.keys) tag c.put.ensures.ok c.put.ensures.err c.self.invariant
-    (ap (λ (ts : List (List ℕ)). has_tag ts tag) c.self.view_is ∙ ap (has_tag c.args.self.now) (c.as_bytes-2.ensures ∙ sym c.as_bytes.ensures) ∙ sym c.contains.ensures ∙ c.if-contains.false)
+    (ap (λ (ts : List (List ℕ)). has_tag ts tag) c.self.view_is ∙ ap (has_tag c.args.self.now) (c.as_bytes-2.ensures.value ∙ sym c.as_bytes.ensures.value) ∙ sym c.contains.ensures ∙ c.if-contains.false)
     (ap is_full c.self.view_is ∙ sym c.is_full.ensures ∙ c.if-is_full.false)
