@@ -5,7 +5,7 @@ use Rattle.std.proofs.lemmas.Bool.{lt-ltb, le-ltb, lt-leb, le-leb, cases_lt}
 use Rattle.std.proofs.lemmas.Bool.Decides.{leb_tells}
 use Rattle.std.proofs.lemmas.List.{append_assoc}
 use Rattle.base.specs.declared.number.Dead.{Dead}
-use Rattle.deadlist.specs.declared.parts.Segment.{Segment}
+use Rattle.deadlist.specs.Spans.{Span}
 use Rattle.deadlist.specs.Entries.{is_after, is_upto}
 use Rattle.deadlist.specs.Segments.{AreCut, AreBornFrom, AreBornBy, upper_of, uppers, entries_in}
 
@@ -94,25 +94,25 @@ born_from_zero [] = tt
 born_from_zero (d ∷ ds) = (omega arith, born_from_zero ds)
 
 -- ---- segments beyond the cut
-pub born_from_all : (xs : List Segment) (from : ℕ) (last : List Dead) → AreCut from xs last → AreBornFrom from (entries_in xs ++ last)
+pub born_from_all : (xs : List Span) (from : ℕ) (last : List Dead) → AreCut from xs last → AreBornFrom from (entries_in xs ++ last)
 born_from_all [] from last c = c
 born_from_all (s ∷ ss) from last c =
     let k = born_from_weaker (upper_of s + 1) from (entries_in ss ++ last) (born_from_all ss (upper_of s + 1) last c.3) (omega (arith, c.0)) in
     rw append_assoc (born_from_append from s.pile (entries_in ss ++ last) c.1 k)
 
-pub none_upto : (xs : List Segment) (from cut : ℕ) (last : List Dead) → AreCut from xs last → cut < from → filter (is_upto cut) (entries_in xs ++ last) ≡ []
+pub none_upto : (xs : List Span) (from cut : ℕ) (last : List Dead) → AreCut from xs last → cut < from → filter (is_upto cut) (entries_in xs ++ last) ≡ []
 none_upto xs from cut last c lt = upto_born_from from cut (entries_in xs ++ last) (born_from_all xs from last c) lt
 
-pub all_after : (xs : List Segment) (from cut : ℕ) (last : List Dead) → AreCut from xs last → cut < from → filter (is_after cut) (entries_in xs ++ last) ≡ entries_in xs ++ last
+pub all_after : (xs : List Span) (from cut : ℕ) (last : List Dead) → AreCut from xs last → cut < from → filter (is_after cut) (entries_in xs ++ last) ≡ entries_in xs ++ last
 all_after xs from cut last c lt = after_born_from from cut (entries_in xs ++ last) (born_from_all xs from last c) lt
 
-pub none_cuts : (xs : List Segment) (from cut : ℕ) (last : List Dead) → AreCut from xs last → cut < from → filter (λ c. leb c cut) (uppers xs) ≡ []
+pub none_cuts : (xs : List Span) (from cut : ℕ) (last : List Dead) → AreCut from xs last → cut < from → filter (λ c. leb c cut) (uppers xs) ≡ []
 none_cuts [] from cut last c lt = refl
 none_cuts (s ∷ ss) from cut last c lt =
     let e = lt-leb (upper_of s) cut (omega (arith, c.0)) in
     rw e (none_cuts ss (upper_of s + 1) cut last c.3 (omega (arith, c.0)))
 
-pub all_cuts : (xs : List Segment) (from cut : ℕ) (last : List Dead) → AreCut from xs last → cut < from → filter (λ c. ltb cut c) (uppers xs) ≡ uppers xs
+pub all_cuts : (xs : List Span) (from cut : ℕ) (last : List Dead) → AreCut from xs last → cut < from → filter (λ c. ltb cut c) (uppers xs) ≡ uppers xs
 all_cuts [] from cut last c lt = refl
 all_cuts (s ∷ ss) from cut last c lt =
     let e = lt-ltb cut (upper_of s) (omega (arith, c.0)) in

@@ -6,7 +6,7 @@ use Rattle.std.proofs.lemmas.List.{append_assoc, append-nil}
 use Rattle.std.proofs.lemmas.List.Sorted.{IsPermutation-append_left, IsPermutation-append_right, IsPermutation-filter_both}
 use Rattle.std.specs.List.Sorted.{IsPermutation}
 use Rattle.base.specs.declared.number.Dead.{Dead}
-use Rattle.deadlist.specs.declared.parts.Segment.{Segment}
+use Rattle.deadlist.specs.Spans.{Span}
 use Rattle.deadlist.specs.Entries.{is_after, is_upto}
 use Rattle.deadlist.specs.Segments.{AreCut, upper_of, uppers, entries_in, ended, has_cut, with_cut, pile_at, with_pile, last_with}
 use Rattle.deadlist.proofs.Births.{born_from_filter, born_by_filter, born_by_cut, born_after_cut, all_cuts}
@@ -25,17 +25,17 @@ pub divided_entries : (g : ℕ) (p : List Dead) → IsPermutation p (filter (is_
 divided_entries g p = IsPermutation-filter_both (is_upto g) (is_after g) (upto_or_after g) p
 
 -- a segment of the entries born by the group
-abbrev pub low_segment : ℕ → List Dead → Segment
+abbrev pub low_segment : ℕ → List Dead → Span
 low_segment g p = record { upper = record { 0 = g }; pile = filter (is_upto g) p }
 
 -- the segments with it in front of the one that is divided, and that one with the entries born after the group
-abbrev pub cut_segments : ℕ → List Segment → List Dead → List Segment
+abbrev pub cut_segments : ℕ → List Span → List Dead → List Span
 cut_segments g xs last = with_pile (take (ended g xs) xs ++ low_segment g (pile_at xs last (ended g xs)) ∷ drop (ended g xs) xs) (suc (ended g xs)) (filter (is_after g) (pile_at xs last (ended g xs)))
 
-abbrev pub cut_last : ℕ → List Segment → List Dead → List Dead
+abbrev pub cut_last : ℕ → List Span → List Dead → List Dead
 cut_last g xs last = last_with (take (ended g xs) xs ++ low_segment g (pile_at xs last (ended g xs)) ∷ drop (ended g xs) xs) last (suc (ended g xs)) (filter (is_after g) (pile_at xs last (ended g xs)))
 
-pub cut_entries : (xs : List Segment) (g : ℕ) (last : List Dead) → IsPermutation (entries_in xs ++ last) (entries_in (cut_segments g xs last) ++ cut_last g xs last)
+pub cut_entries : (xs : List Span) (g : ℕ) (last : List Dead) → IsPermutation (entries_in xs ++ last) (entries_in (cut_segments g xs last) ++ cut_last g xs last)
 cut_entries [] g last = rw append-nil (divided_entries g last)
 cut_entries (s ∷ ss) g last =
     elim (leb_tells (upper_of s) g) [
@@ -52,7 +52,7 @@ cut_entries (s ∷ ss) g last =
           (IsPermutation-append_left (entries_in ss ++ last) s.pile (low ++ high) (divided_entries g s.pile)))
     ]
 
-pub cut_cut : (xs : List Segment) (from g : ℕ) (last : List Dead) → AreCut from xs last → from ≤ g → has_cut g xs ≡ false → AreCut from (cut_segments g xs last) (cut_last g xs last)
+pub cut_cut : (xs : List Span) (from g : ℕ) (last : List Dead) → AreCut from xs last → from ≤ g → has_cut g xs ≡ false → AreCut from (cut_segments g xs last) (cut_last g xs last)
 cut_cut [] from g last c le e = (le, born_from_filter from (is_upto g) last c, born_by_cut g last, born_after_cut g last)
 cut_cut (s ∷ ss) from g last c le e =
     let es = or_parts (eqb (upper_of s) g) (has_cut g ss) e in
@@ -63,13 +63,13 @@ cut_cut (s ∷ ss) from g last c le e =
       | inr h ↦ rw h.0 (le, born_from_filter from (is_upto g) s.pile c.1, born_by_cut g s.pile, (omega (arith, h.1), born_after_cut g s.pile, born_by_filter (upper_of s) (is_after g) s.pile c.2, c.3))
     ]
 
-pub none_below : (xs : List Segment) (from g : ℕ) (last : List Dead) → AreCut from xs last → g < from → filter (λ c. ltb c g) (uppers xs) ≡ []
+pub none_below : (xs : List Span) (from g : ℕ) (last : List Dead) → AreCut from xs last → g < from → filter (λ c. ltb c g) (uppers xs) ≡ []
 none_below [] from g last c lt = refl
 none_below (s ∷ ss) from g last c lt =
     let e = le-ltb (upper_of s) g (omega (arith, c.0)) in
     rw e (none_below ss (upper_of s + 1) g last c.3 (omega (arith, c.0)))
 
-pub cut_uppers : (xs : List Segment) (from g : ℕ) (last : List Dead) → AreCut from xs last → has_cut g xs ≡ false → uppers (cut_segments g xs last) ≡ with_cut g (uppers xs)
+pub cut_uppers : (xs : List Span) (from g : ℕ) (last : List Dead) → AreCut from xs last → has_cut g xs ≡ false → uppers (cut_segments g xs last) ≡ with_cut g (uppers xs)
 cut_uppers [] from g last c e = refl
 cut_uppers (s ∷ ss) from g last c e =
     let es = or_parts (eqb (upper_of s) g) (has_cut g ss) e in
@@ -88,7 +88,7 @@ cut_uppers (s ∷ ss) from g last c e =
     ]
 
 -- where the cut stands, one more is none
-pub stands_uppers : (xs : List Segment) (from g : ℕ) (last : List Dead) → AreCut from xs last → has_cut g xs ≡ true → uppers xs ≡ with_cut g (uppers xs)
+pub stands_uppers : (xs : List Span) (from g : ℕ) (last : List Dead) → AreCut from xs last → has_cut g xs ≡ true → uppers xs ≡ with_cut g (uppers xs)
 stands_uppers [] from g last c e = absurd (false≢true e)
 stands_uppers (s ∷ ss) from g last c e =
     elim (eqb_tells (upper_of s) g) [

@@ -12,3 +12,6 @@ pub mod Meters
 pub mod Pushes
 pub mod Runs
 pub mod Orders
+pub mod Logs
+pub mod Steps
+pub mod Alike

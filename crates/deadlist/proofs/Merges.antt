@@ -5,7 +5,7 @@ use Rattle.std.proofs.lemmas.List.Sorted.{IsPermutation-refl, IsPermutation-tran
 use Rattle.std.specs.List.{flat_map}
 use Rattle.std.specs.List.Sorted.{IsPermutation}
 use Rattle.base.specs.declared.number.Dead.{Dead}
-use Rattle.deadlist.specs.declared.parts.Segment.{Segment}
+use Rattle.deadlist.specs.Spans.{Span}
 use Rattle.deadlist.specs.Segments.{AreCut, with_cut, with_cuts}
 use Rattle.deadlist.proofs.Births.{born_from_weaker}
 
@@ -32,7 +32,7 @@ perm_piece f es now new xs i x lt read h k =
     let e = flat_map_take f xs i x lt read in
     rw e (perm_more es (flat_map f (take i xs)) now (f x) new h k)
 
-pub cut_weaker : (xs : List Segment) (from low : ℕ) (last : List Dead) → AreCut from xs last → low ≤ from → AreCut low xs last
+pub cut_weaker : (xs : List Span) (from low : ℕ) (last : List Dead) → AreCut from xs last → low ≤ from → AreCut low xs last
 cut_weaker [] from low last c le = born_from_weaker from low last c le
 cut_weaker (s ∷ ss) from low last c le = (omega (arith, c.0), born_from_weaker from low s.pile c.1 le, c.2, c.3)
 

@@ -6,7 +6,7 @@ use Rattle.std.proofs.lemmas.List.Sorted.{All-permutation, IsPermutation-append_
 use Rattle.std.specs.List.{All}
 use Rattle.std.specs.List.Sorted.{IsPermutation}
 use Rattle.base.specs.declared.number.Dead.{Dead}
-use Rattle.deadlist.specs.declared.parts.Segment.{Segment}
+use Rattle.deadlist.specs.Spans.{Span}
 use Rattle.deadlist.specs.Segments.{AreCut, AreBornFrom, AreBornBy, upper_of, entries_in, pile_at, with_pile, last_with}
 use Rattle.deadlist.specs.Entries.{run_items, run_entries}
 use Rattle.std.proofs.lemmas.List.Concat.{flat_map-append}
@@ -38,12 +38,12 @@ born_by_permuted to p q h s = by_all to q (All-permutation (λ (d : Dead). d.bir
 
 -- ---- one segment in another order
 
-pub pile_at_with : (xs : List Segment) (last : List Dead) (i : ℕ) (p : List Dead) → pile_at (with_pile xs i p) (last_with xs last i p) i ≡ p
+pub pile_at_with : (xs : List Span) (last : List Dead) (i : ℕ) (p : List Dead) → pile_at (with_pile xs i p) (last_with xs last i p) i ≡ p
 pile_at_with [] last i p = refl
 pile_at_with (s ∷ ss) last zero p = refl
 pile_at_with (s ∷ ss) last (suc i) p = pile_at_with ss last i p
 
-pub entries_permuted : (xs : List Segment) (last : List Dead) (i : ℕ) (p q : List Dead) → IsPermutation p q → IsPermutation (entries_in (with_pile xs i p) ++ last_with xs last i p) (entries_in (with_pile xs i q) ++ last_with xs last i q)
+pub entries_permuted : (xs : List Span) (last : List Dead) (i : ℕ) (p q : List Dead) → IsPermutation p q → IsPermutation (entries_in (with_pile xs i p) ++ last_with xs last i p) (entries_in (with_pile xs i q) ++ last_with xs last i q)
 entries_permuted [] last i p q h = h
 entries_permuted (s ∷ ss) last zero p q h = IsPermutation-append_left last (p ++ entries_in ss) (q ++ entries_in ss) (IsPermutation-append_left (entries_in ss) p q h)
 entries_permuted (s ∷ ss) last (suc i) p q h =
@@ -54,13 +54,13 @@ entries_permuted (s ∷ ss) last (suc i) p q h =
     (append_assoc s.pile fs (last_with ss last i q))
     (IsPermutation-append_right s.pile (es ++ last_with ss last i p) (fs ++ last_with ss last i q) (entries_permuted ss last i p q h))
 
-pub cut_permuted : (xs : List Segment) (from : ℕ) (last : List Dead) (i : ℕ) (p q : List Dead) → IsPermutation p q → AreCut from (with_pile xs i p) (last_with xs last i p) → AreCut from (with_pile xs i q) (last_with xs last i q)
+pub cut_permuted : (xs : List Span) (from : ℕ) (last : List Dead) (i : ℕ) (p q : List Dead) → IsPermutation p q → AreCut from (with_pile xs i p) (last_with xs last i p) → AreCut from (with_pile xs i q) (last_with xs last i q)
 cut_permuted [] from last i p q h c = born_from_permuted from p q c h
 cut_permuted (s ∷ ss) from last zero p q h c = (c.0, born_from_permuted from p q c.1 h, born_by_permuted (upper_of s) p q c.2 h, c.3)
 cut_permuted (s ∷ ss) from last (suc i) p q h c = (c.0, c.1, c.2, cut_permuted ss (upper_of s + 1) last i p q h c.3)
 
 -- the last one
-pub cut_last_permuted : (xs : List Segment) (from : ℕ) (last new : List Dead) → IsPermutation last new → AreCut from xs last → AreCut from xs new
+pub cut_last_permuted : (xs : List Span) (from : ℕ) (last new : List Dead) → IsPermutation last new → AreCut from xs last → AreCut from xs new
 cut_last_permuted [] from last new h c = born_from_permuted from last new c h
 cut_last_permuted (s ∷ ss) from last new h c = (c.0, c.1, c.2, cut_last_permuted ss (upper_of s + 1) last new h c.3)
 

@@ -4,7 +4,7 @@ use Rattle.std.proofs.lemmas.List.{append_assoc}
 use Rattle.std.proofs.lemmas.List.Sorted.{IsPermutation-refl, IsPermutation-append_right, IsPermutation-append_comm}
 use Rattle.std.specs.List.Sorted.{IsPermutation}
 use Rattle.base.specs.declared.number.Dead.{Dead}
-use Rattle.deadlist.specs.declared.parts.Segment.{Segment}
+use Rattle.deadlist.specs.Spans.{Span}
 use Rattle.deadlist.specs.Segments.{AreCut, AreBornFrom, FitsAt, upper_of, entries_in, begun, pile_at, with_pile, last_with}
 use Rattle.deadlist.proofs.Births.{ltb_tells, born_from_weaker, born_from_append, born_by_append}
 
@@ -16,17 +16,17 @@ perm_same xs ys us vs e f h = rw (e, f) h
 pub perm_insert : {X : Type 0} (ls rs q : List X) → IsPermutation ((ls ++ rs) ++ q) (ls ++ (q ++ rs))
 perm_insert ls rs q = rw append_assoc (IsPermutation-append_right ls (rs ++ q) (q ++ rs) (IsPermutation-append_comm rs q))
 
-pub with_pile_twice : (xs : List Segment) (i : ℕ) (p q : List Dead) → with_pile (with_pile xs i p) i q ≡ with_pile xs i q
+pub with_pile_twice : (xs : List Span) (i : ℕ) (p q : List Dead) → with_pile (with_pile xs i p) i q ≡ with_pile xs i q
 with_pile_twice [] i p q = refl
 with_pile_twice (s ∷ ss) zero p q = refl
-with_pile_twice (s ∷ ss) (suc i) p q = ap (λ (ys : List Segment). s ∷ ys) (with_pile_twice ss i p q)
+with_pile_twice (s ∷ ss) (suc i) p q = ap (λ (ys : List Span). s ∷ ys) (with_pile_twice ss i p q)
 
-pub last_with_twice : (xs : List Segment) (last : List Dead) (i : ℕ) (p q : List Dead) → last_with (with_pile xs i p) (last_with xs last i p) i q ≡ last_with xs last i q
+pub last_with_twice : (xs : List Span) (last : List Dead) (i : ℕ) (p q : List Dead) → last_with (with_pile xs i p) (last_with xs last i p) i q ≡ last_with xs last i q
 last_with_twice [] last i p q = refl
 last_with_twice (s ∷ ss) last zero p q = refl
 last_with_twice (s ∷ ss) last (suc i) p q = last_with_twice ss last i p q
 
-pub put_entries : (xs : List Segment) (last : List Dead) (i : ℕ) (q : List Dead) → IsPermutation ((entries_in xs ++ last) ++ q) (entries_in (with_pile xs i (pile_at xs last i ++ q)) ++ last_with xs last i (pile_at xs last i ++ q))
+pub put_entries : (xs : List Span) (last : List Dead) (i : ℕ) (q : List Dead) → IsPermutation ((entries_in xs ++ last) ++ q) (entries_in (with_pile xs i (pile_at xs last i ++ q)) ++ last_with xs last i (pile_at xs last i ++ q))
 put_entries [] last i q = IsPermutation-refl (last ++ q)
 put_entries (s ∷ ss) last zero q =
     let p = s.pile in
@@ -46,7 +46,7 @@ put_entries (s ∷ ss) last (suc i) q =
     (append_assoc p fs end)
     (IsPermutation-append_right p ((es ++ last) ++ q) (fs ++ end) (put_entries ss last i q))
 
-pub put_cut : (xs : List Segment) (from group : ℕ) (last q : List Dead) → AreCut from xs last → from ≤ group → AreBornFrom group q → FitsAt xs (begun group xs) q → AreCut from (with_pile xs (begun group xs) (pile_at xs last (begun group xs) ++ q)) (last_with xs last (begun group xs) (pile_at xs last (begun group xs) ++ q))
+pub put_cut : (xs : List Span) (from group : ℕ) (last q : List Dead) → AreCut from xs last → from ≤ group → AreBornFrom group q → FitsAt xs (begun group xs) q → AreCut from (with_pile xs (begun group xs) (pile_at xs last (begun group xs) ++ q)) (last_with xs last (begun group xs) (pile_at xs last (begun group xs) ++ q))
 put_cut [] from group last q c le b = λ f. born_from_append from last q c (born_from_weaker group from q b le)
 put_cut (s ∷ ss) from group last q c le b =
     elim (ltb_tells (upper_of s) group) [
@@ -55,7 +55,7 @@ put_cut (s ∷ ss) from group last q c le b =
     ]
 
 -- one entry fits the segment that its birth lies in
-pub fits_one : (xs : List Segment) (d : Dead) → FitsAt xs (begun d.birth.0 xs) (d ∷ [])
+pub fits_one : (xs : List Span) (d : Dead) → FitsAt xs (begun d.birth.0 xs) (d ∷ [])
 fits_one [] d = tt
 fits_one (s ∷ ss) d =
     elim (ltb_tells (upper_of s) d.birth.0) [

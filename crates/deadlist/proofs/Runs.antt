@@ -1,14 +1,14 @@
 -- Entries in order of birth, by a cut and after it; and runs of them.
-use Rattle.std.proofs.Common.{◌≡◌, ℕ, zero, suc, ◌+◌, ◌-◌, ◌≤◌, inl, inr, true, false, List, [], ◌∷◌, ◌++◌, length, filter, take, drop, arith, refl, ap, sym, ◌∙◌}
-use Rattle.std.proofs.lemmas.Bool.{lt-ltb, le-ltb, true≢false}
+use Rattle.std.proofs.Common.{◌≡◌, ℕ, zero, suc, ◌+◌, ◌-◌, ◌≤◌, ◌<◌, inl, inr, true, false, List, [], ◌∷◌, ◌++◌, length, get_or, filter, take, drop, arith, refl, ap, sym, ◌∙◌}
+use Rattle.std.proofs.lemmas.Bool.{lt-ltb, le-ltb, lt-leb, le-leb, true≢false}
 use Rattle.std.proofs.lemmas.Bool.Decides.{leb_tells}
 use Rattle.std.proofs.lemmas.List.{append_assoc, append-nil, drop-drop, drop-take, take-take, length-drop, length-take-le}
 use Rattle.std.proofs.lemmas.List.Concat.{flat_map-append}
 use Rattle.std.proofs.lemmas.List.Sorted.{IsPermutation-append_right}
 use Rattle.std.specs.List.{AllWithin}
-use Rattle.std.specs.List.Sorted.{IsPermutation}
+use Rattle.std.specs.List.Sorted.{IsPermutation, IsNonDecreasingBy}
 use Rattle.base.specs.declared.number.Dead.{Dead}
-use Rattle.deadlist.specs.Entries.{is_after, is_upto, run_items, run_entries}
+use Rattle.deadlist.specs.Entries.{birth_of, is_after, is_upto, run_items, run_entries}
 
 -- a stretch of a stretch
 pub part_is : (xs : List Dead) (from to a b : ℕ) → from ≤ to → a ≤ b → b ≤ to - from → take ((from + b) - (from + a)) (drop (from + a) xs) ≡ take (b - a) (drop a (take (to - from) (drop from xs)))
@@ -56,6 +56,19 @@ split_filters cut (x ∷ xs) (suc i) le pass fail =
     let no = upto_true cut x yes in
     let ih = split_filters cut xs i (omega arith) (λ k d l h. pass (suc k) d (omega arith) (omega arith)) (λ k d l h. fail (suc k) d (omega arith) (omega arith)) in
     (rw yes (ap (λ (ds : List Dead). x ∷ ds) ih.0), rw no ih.1)
+
+-- where an entry was born by the cut, so were those before it; and where one was born after it, those behind it
+pub upto_within : (cut : ℕ) (xs : List Dead) (at birth : ℕ) → IsNonDecreasingBy birth_of xs → at < length xs → ((d : Dead) → birth ≡ birth_of (get_or xs at d)) → birth ≤ cut → AllWithin (λ (d : Dead). is_upto cut d ≡ true) xs 0 (at + 1)
+upto_within cut xs at birth rising lt is le k d l h =
+    let r = rising k at d (omega arith) lt in
+    let e = is d in
+    le-leb (birth_of (get_or xs k d)) cut (omega (arith, r, e))
+
+pub after_within : (cut : ℕ) (xs : List Dead) (at birth : ℕ) → IsNonDecreasingBy birth_of xs → ((d : Dead) → birth ≡ birth_of (get_or xs at d)) → cut < birth → AllWithin (λ (d : Dead). is_upto cut d ≡ false) xs at (length xs)
+after_within cut xs at birth rising is lt k d l h =
+    let r = rising at k d l h in
+    let e = is d in
+    lt-leb (birth_of (get_or xs k d)) cut (omega (arith, r, e))
 
 -- ---- runs
 

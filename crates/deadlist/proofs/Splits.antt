@@ -5,16 +5,16 @@ use Rattle.std.proofs.lemmas.Bool.Decides.{leb_tells}
 use Rattle.std.proofs.lemmas.List.{append_assoc, append-nil}
 use Rattle.std.proofs.lemmas.List.Elements.{filter-append}
 use Rattle.base.specs.declared.number.Dead.{Dead}
-use Rattle.deadlist.specs.declared.parts.Segment.{Segment}
+use Rattle.deadlist.specs.Spans.{Span}
 use Rattle.deadlist.specs.Entries.{is_after, is_upto}
 use Rattle.deadlist.specs.Segments.{AreCut, upper_of, uppers, entries_in, ended, pile_at, with_pile, last_with}
 use Rattle.deadlist.proofs.Births.{upto_born_by, after_born_by, born_from_filter, born_by_filter, born_from_zero, none_upto, all_after, none_cuts, all_cuts}
 
 -- the entries of the segment that the cut may divide
-abbrev pub divided : ℕ → List Segment → List Dead → List Dead
+abbrev pub divided : ℕ → List Span → List Dead → List Dead
 divided cut xs last = pile_at xs last (ended cut xs)
 
-pub kept_entries : (xs : List Segment) (from cut : ℕ) (last : List Dead) → AreCut from xs last → entries_in (take (ended cut xs) xs) ++ filter (is_upto cut) (divided cut xs last) ≡ filter (is_upto cut) (entries_in xs ++ last)
+pub kept_entries : (xs : List Span) (from cut : ℕ) (last : List Dead) → AreCut from xs last → entries_in (take (ended cut xs) xs) ++ filter (is_upto cut) (divided cut xs last) ≡ filter (is_upto cut) (entries_in xs ++ last)
 kept_entries [] from cut last c = refl
 kept_entries (s ∷ ss) from cut last c =
     let assoc = append_assoc s.pile (entries_in ss) last in
@@ -31,7 +31,7 @@ kept_entries (s ∷ ss) from cut last c =
           rw h.0 cc
     ]
 
-pub taken_entries : (xs : List Segment) (from cut : ℕ) (last : List Dead) → AreCut from xs last → entries_in (with_pile (drop (ended cut xs) xs) 0 (filter (is_after cut) (divided cut xs last))) ++ last_with (drop (ended cut xs) xs) last 0 (filter (is_after cut) (divided cut xs last)) ≡ filter (is_after cut) (entries_in xs ++ last)
+pub taken_entries : (xs : List Span) (from cut : ℕ) (last : List Dead) → AreCut from xs last → entries_in (with_pile (drop (ended cut xs) xs) 0 (filter (is_after cut) (divided cut xs last))) ++ last_with (drop (ended cut xs) xs) last 0 (filter (is_after cut) (divided cut xs last)) ≡ filter (is_after cut) (entries_in xs ++ last)
 taken_entries [] from cut last c = refl
 taken_entries (s ∷ ss) from cut last c =
     let assoc = append_assoc s.pile (entries_in ss) last in
@@ -47,7 +47,7 @@ taken_entries (s ∷ ss) from cut last c =
           rw h.0 cc
     ]
 
-pub kept_cuts : (xs : List Segment) (from cut : ℕ) (last : List Dead) → AreCut from xs last → uppers (take (ended cut xs) xs) ≡ filter (λ c. leb c cut) (uppers xs)
+pub kept_cuts : (xs : List Span) (from cut : ℕ) (last : List Dead) → AreCut from xs last → uppers (take (ended cut xs) xs) ≡ filter (λ c. leb c cut) (uppers xs)
 kept_cuts [] from cut last c = refl
 kept_cuts (s ∷ ss) from cut last c =
     elim (leb_tells (upper_of s) cut) [
@@ -55,12 +55,12 @@ kept_cuts (s ∷ ss) from cut last c =
       | inr h ↦ rw h.0 (sym (none_cuts ss (upper_of s + 1) cut last c.3 (omega (arith, h.1))))
     ]
 
-pub uppers-with_pile : (xs : List Segment) (i : ℕ) (p : List Dead) → uppers (with_pile xs i p) ≡ uppers xs
+pub uppers-with_pile : (xs : List Span) (i : ℕ) (p : List Dead) → uppers (with_pile xs i p) ≡ uppers xs
 uppers-with_pile [] i p = refl
 uppers-with_pile (s ∷ ss) zero p = refl
 uppers-with_pile (s ∷ ss) (suc i) p = ap (λ (us : List ℕ). upper_of s ∷ us) (uppers-with_pile ss i p)
 
-pub dropped_cuts : (xs : List Segment) (from cut : ℕ) (last : List Dead) → AreCut from xs last → uppers (drop (ended cut xs) xs) ≡ filter (λ c. ltb cut c) (uppers xs)
+pub dropped_cuts : (xs : List Span) (from cut : ℕ) (last : List Dead) → AreCut from xs last → uppers (drop (ended cut xs) xs) ≡ filter (λ c. ltb cut c) (uppers xs)
 dropped_cuts [] from cut last c = refl
 dropped_cuts (s ∷ ss) from cut last c =
     elim (leb_tells (upper_of s) cut) [
@@ -72,10 +72,10 @@ dropped_cuts (s ∷ ss) from cut last c =
           rw (h.0, e) (ap (λ (us : List ℕ). upper_of s ∷ us) (sym (all_cuts ss (upper_of s + 1) cut last c.3 (omega (arith, h.1)))))
     ]
 
-pub taken_cuts : (xs : List Segment) (from cut : ℕ) (last p : List Dead) → AreCut from xs last → uppers (with_pile (drop (ended cut xs) xs) 0 p) ≡ filter (λ c. ltb cut c) (uppers xs)
+pub taken_cuts : (xs : List Span) (from cut : ℕ) (last p : List Dead) → AreCut from xs last → uppers (with_pile (drop (ended cut xs) xs) 0 p) ≡ filter (λ c. ltb cut c) (uppers xs)
 taken_cuts xs from cut last p c = uppers-with_pile (drop (ended cut xs) xs) 0 p ∙ dropped_cuts xs from cut last c
 
-pub kept_cut : (xs : List Segment) (from cut : ℕ) (last : List Dead) → AreCut from xs last → AreCut from (take (ended cut xs) xs) (filter (is_upto cut) (divided cut xs last))
+pub kept_cut : (xs : List Span) (from cut : ℕ) (last : List Dead) → AreCut from xs last → AreCut from (take (ended cut xs) xs) (filter (is_upto cut) (divided cut xs last))
 kept_cut [] from cut last c = born_from_filter from (is_upto cut) last c
 kept_cut (s ∷ ss) from cut last c =
     elim (leb_tells (upper_of s) cut) [
@@ -83,7 +83,7 @@ kept_cut (s ∷ ss) from cut last c =
       | inr h ↦ rw h.0 (born_from_filter from (is_upto cut) s.pile c.1)
     ]
 
-pub taken_cut : (xs : List Segment) (from cut : ℕ) (last : List Dead) → AreCut from xs last → AreCut 0 (with_pile (drop (ended cut xs) xs) 0 (filter (is_after cut) (divided cut xs last))) (last_with (drop (ended cut xs) xs) last 0 (filter (is_after cut) (divided cut xs last)))
+pub taken_cut : (xs : List Span) (from cut : ℕ) (last : List Dead) → AreCut from xs last → AreCut 0 (with_pile (drop (ended cut xs) xs) 0 (filter (is_after cut) (divided cut xs last))) (last_with (drop (ended cut xs) xs) last 0 (filter (is_after cut) (divided cut xs last)))
 taken_cut [] from cut last c = born_from_zero (filter (is_after cut) last)
 taken_cut (s ∷ ss) from cut last c =
     elim (leb_tells (upper_of s) cut) [

@@ -1,7 +1,8 @@
 -- Entries of dead lists, and how a group divides them (profile).
-use Rattle.std.specs.Prelude.{◌≤◌, ℕ, Bool, List, [], ◌∷◌, nat_lt, nat_le}
-use Rattle.std.specs.List.{flat_map}
+use Rattle.std.specs.Prelude.{◌≤◌, ◌<◌, ◌+◌, ◌^◌, ℕ, Bool, List, [], ◌∷◌, nat_lt, nat_le, length}
+use Rattle.std.specs.List.{flat_map, sum_by}
 use Rattle.base.specs.declared.number.Dead.{Dead}
+use Rattle.deadlist.specs.Bits.{bits}
 
 -- the group in which the entry's block was born
 abbrev pub birth_of : Dead → ℕ
@@ -32,3 +33,23 @@ run_items r = r
 -- the entries of runs, one run after the other
 abbrev pub run_entries : List (List Dead) → List Dead
 run_entries = flat_map run_items
+
+-- how many entries a search looks at in a run, and in each of some runs, at most
+abbrev pub run_steps : List Dead → ℕ
+run_steps r = bits (length r)
+
+abbrev pub runs_steps : List (List Dead) → ℕ
+runs_steps = sum_by run_steps
+
+-- each run is more than twice as long as the next one, and the first one shorter than half that number
+abbrev pub AreHalvedFrom : ℕ → List (List Dead) → Type 0
+AreHalvedFrom above [] = Unit {0}
+AreHalvedFrom above (r ∷ rs) = (length r + length r < above) × AreHalvedFrom (length r) rs
+
+abbrev pub AreHalved : List (List Dead) → Type 0
+AreHalved rs = AreHalvedFrom (2 ^ 65) rs
+
+-- how long the last one is, or that number where there is none
+abbrev pub last_length : ℕ → List (List Dead) → ℕ
+last_length above [] = above
+last_length above (r ∷ rs) = last_length (length r) rs

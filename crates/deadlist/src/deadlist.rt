@@ -1,10 +1,11 @@
 //! The dead list of a dataset.
-ghost use Rattle.std.specs.Prelude.{◌≡◌, ◌+◌, ◌^◌, ◌≤◌, ◌<◌, ◌++◌, ◌∷◌, ◌⊎◌, [], length, filter, drop, OnOk, OnErr, IfOk, IfErr, IsOk, nat_le, nat_lt, ◌==◌, slice_get, if◌then◌else◌, true, false};
+ghost use Rattle.std.specs.Prelude.{◌≡◌, ◌+◌, ◌^◌, ◌≤◌, ◌<◌, ◌++◌, ◌∷◌, ◌⊎◌, [], length, filter, drop, max, OnOk, OnErr, IfOk, IfErr, IsOk, nat_le, nat_lt, ◌==◌, slice_get, if◌then◌else◌, true, false};
 ghost use Rattle.std.specs.List.{list_any};
 ghost use Rattle.std.specs.Option.{option_map};
 ghost use Rattle.std.specs.List.Sorted.{IsPermutation, IsStrictlyIncreasing};
 ghost use Rattle.base.specs.Counting.{counted};
 ghost use Rattle.base.specs.declared.refusal.Refusal.TheVariants.{NoMemory};
+ghost use Rattle.deadlist.specs.Bits.{search_steps};
 ghost use Rattle.deadlist.specs.Entries.{is_after, is_upto};
 ghost use Rattle.deadlist.specs.Left.{left};
 ghost use Rattle.deadlist.specs.Segments.{with_cut, with_cuts, without_cut, reached_upto, reached_after};
@@ -23,9 +24,11 @@ use std::marker::Model;
 /// and the last segment has no upper cut.
 ///
 /// The entries of the last segment are in order of birth, in runs of which each is more than twice as long as the next one. So dividing it at
-/// any group costs about the square of the logarithm of its entries. New entries wait behind the segments; at most 64 wait after an `append`, or
+/// any group costs about the square of the logarithm of its entries. New entries wait behind the segments; at most 63 wait after an `append`, or
 /// after a `reserve` that has sorted entries in. A copy shares the runs, so that it costs the segments and the waiting entries. No entry was
 /// born before `low`, and none after `high`, so that a count at a group that has all entries on one side looks into no segment.
+///
+/// Contracts see how many entries wait (`waiting`), and how many others a sum looks at, at most (`steps`). The meter of a sum counts both.
 pub struct Deadlist {
     parts: Parts,
     count: u64,
@@ -55,7 +58,7 @@ impl Model for Deadlist {
     ghost use Rattle.std.specs.Prelude.{◌≡◌, ◌++◌, ◌-◌, ◌^◌, min, length};
     ghost use Rattle.std.specs.Vec.{vec_len, vec_capacity};
     ghost use Rattle.deadlist.specs.Held.{Held};
-    ghost use Rattle.deadlist.specs.Segments.{IsCut, AreBornFrom, AreBornBy, entries_of, cuts_of};
+    ghost use Rattle.deadlist.specs.Segments.{IsCut, AreBornFrom, AreBornBy, entries_of, cuts_of, steps_of};
 
     ghost Value = { Held };
 
@@ -63,6 +66,8 @@ impl Model for Deadlist {
       entries = entries_of d.parts ++ d.fresh.items;
       cuts = cuts_of d.parts;
       room = min (vec_capacity d.fresh - vec_len d.fresh) (2 ^ 64 - 1 - d.count);
+      waiting = length d.fresh.items;
+      steps = steps_of d.parts;
     } };
 
     ghost invariant = { λ d. IsCut d.parts × (d.count ≡ length (entries_of d.parts ++ d.fresh.items))
@@ -75,6 +80,8 @@ impl Deadlist {
     pub fn new(alloc: Global) -> Deadlist
         ensures entries { result.entries ≡ [] }
         ensures cuts { result.cuts ≡ [] }
+        ensures waiting { result.waiting ≡ 0 }
+        ensures steps { result.steps ≡ 0 }
     {
         Deadlist {
             parts: Parts::new(alloc),
@@ -91,6 +98,8 @@ impl Deadlist {
     pub fn copy(&self, meter: &mut SegMeter) -> Result<Deadlist, Refusal>
         ensures entries { IfOk result (λ d. d.entries ≡ self.now.entries) }
         ensures cuts { IfOk result (λ d. d.cuts ≡ self.now.cuts) }
+        ensures waiting { IfOk result (λ d. d.waiting ≡ self.now.waiting) }
+        ensures steps { IfOk result (λ d. d.steps ≡ self.now.steps) }
         ensures err { IfErr result (λ e. e ≡ NoMemory) }
         ensures meter { meter.new ≡ counted meter.old (length self.now.cuts + 1) }
         ensures never_lower { meter.old ≤ meter.new }
@@ -115,6 +124,11 @@ impl Deadlist {
         ensures entries { IsPermutation self.old.entries self.new.entries }
         ensures cuts { self.new.cuts ≡ self.old.cuts }
         ensures room { OnOk result (n ≤ self.new.room) }
+
+        // Few wait then; and a sum looks at no more entries than before, or than about the square of the logarithm of all.
+        ensures waiting { OnOk result (self.new.waiting ≤ max 63 (length self.old.cuts)) }
+        ensures steps { OnOk result
+            (self.new.steps ≤ max self.old.steps (search_steps (length self.old.entries))) }
         ensures unchanged { OnErr result (self.new ≡ self.old) }
         ensures err { IfErr result (λ e. e ≡ NoMemory) }
 
@@ -142,6 +156,8 @@ impl Deadlist {
         ensures entries { IsPermutation self.old.entries self.new.entries }
         ensures cuts { self.new.cuts ≡ self.old.cuts }
         ensures room { OnOk result (n ≤ self.new.room) }
+        ensures waiting { OnOk result (self.new.waiting ≡ 0) }
+        ensures steps { OnOk result (self.new.steps ≤ search_steps (length self.old.entries)) }
         ensures unchanged { OnErr result (self.new ≡ self.old) }
     {
         let sorted = self.parts.sorted(self.alloc, self.fresh.as_slice())?;
@@ -157,6 +173,8 @@ impl Deadlist {
         ensures entries { self.new.entries ≡ self.old.entries ++ dead ∷ [] }
         ensures cuts { self.new.cuts ≡ self.old.cuts }
         ensures room { self.new.room + 1 ≡ self.old.room }
+        ensures waiting { self.new.waiting ≡ self.old.waiting + 1 }
+        ensures steps { self.new.steps ≡ self.old.steps }
     {
         self.fresh.push_reserved(dead);
         self.count += 1;
@@ -170,6 +188,9 @@ impl Deadlist {
         requires { length (filter (is_upto cut.0) entries.now) ≤ self.old.room }
         ensures entries { self.new.entries ≡ self.old.entries ++ filter (is_upto cut.0) entries.now }
         ensures cuts { self.new.cuts ≡ self.old.cuts }
+        ensures waiting { self.new.waiting
+            ≡ self.old.waiting + length (filter (is_upto cut.0) entries.now) }
+        ensures steps { self.new.steps ≡ self.old.steps }
     {
         for dead in entries {
             if dead.birth.0 <= cut.0 {
@@ -190,6 +211,8 @@ impl Deadlist {
         ensures entries { OnOk result
             (IsPermutation (self.old.entries ++ other.entries) self.new.entries) }
         ensures cuts { OnOk result (self.new.cuts ≡ with_cuts self.old.cuts other.cuts) }
+        ensures waiting { OnOk result (self.new.waiting ≤ 63) }
+        ensures steps { OnOk result (self.new.steps ≤ search_steps (length self.new.entries)) }
         ensures unchanged { OnErr result (self.new ≡ self.old) }
         ensures returned { IfErr result (λ e. e.1 ≡ other) }
         ensures err { IfErr result (λ e. e.0 ≡ NoMemory) }
@@ -210,6 +233,8 @@ impl Deadlist {
         ensures entries { OnOk result
             (IsPermutation (self.old.entries ++ other.now.entries) self.new.entries) }
         ensures cuts { OnOk result (self.new.cuts ≡ with_cuts self.old.cuts other.now.cuts) }
+        ensures waiting { OnOk result (self.new.waiting ≤ 63) }
+        ensures steps { OnOk result (self.new.steps ≤ search_steps (length self.new.entries)) }
         ensures unchanged { OnErr result (self.new ≡ self.old) }
     {
         *self = self.both(other)?.with_few_waiting()?;
@@ -218,12 +243,16 @@ impl Deadlist {
 
     // The same list, with the waiting entries sorted in where there are 64 or more.
     fn with_few_waiting(mut self) -> Result<Deadlist, AllocError>
+        requires { self.steps ≤ search_steps (length self.entries) }
         ensures entries { IfOk result (λ d. IsPermutation self.entries d.entries) }
         ensures cuts { IfOk result (λ d. d.cuts ≡ self.cuts) }
+        ensures waiting { IfOk result (λ d. d.waiting ≤ 63) }
+        ensures steps { IfOk result (λ d. d.steps ≤ search_steps (length d.entries)) }
     {
-        if self.fresh.len() >= FEW {
-            self.sort(0)?;
+        if self.fresh.len() < FEW {
+            return Ok(self);
         }
+        self.sort(0)?;
         Ok(self)
     }
 
@@ -232,6 +261,7 @@ impl Deadlist {
         ensures entries { IfOk result
             (λ d. IsPermutation (self.now.entries ++ other.now.entries) d.entries) }
         ensures cuts { IfOk result (λ d. d.cuts ≡ with_cuts self.now.cuts other.now.cuts) }
+        ensures steps { IfOk result (λ d. d.steps ≤ search_steps (length d.entries)) }
     {
         let Some(count) = self.count.checked_add(other.count) else {
             return Err(AllocError);
@@ -260,14 +290,19 @@ impl Deadlist {
         ensures taken { IfOk result (λ d. d.entries ≡ filter (is_after cut.0) self.old.entries) }
         ensures taken_cuts { IfOk result
             (λ d. d.cuts ≡ filter (λ c. nat_lt cut.0 c) self.old.cuts) }
+        ensures kept_waiting { OnOk result (self.new.waiting ≤ self.old.waiting) }
+        ensures kept_steps { OnOk result (self.new.steps ≤ self.old.steps) }
+        ensures taken_waiting { IfOk result (λ d. d.waiting ≤ self.old.waiting) }
+        ensures taken_steps { IfOk result (λ d. d.steps ≤ self.old.steps) }
         ensures unchanged { OnErr result (self.new ≡ self.old) }
         ensures err { IfErr result (λ e. e ≡ NoMemory) }
         ensures meter { meter.new ≡ counted meter.old (reached_after cut.0 self.old.cuts) }
         ensures never_lower { meter.old ≤ meter.new }
     {
-        let count = self.space_after(cut, meter);
+        reach(meter, self.parts.reached_after(cut.0));
         let (kept, taken) = dealt(self.alloc, self.fresh.as_slice(), cut.0)?;
         let parts = self.parts.take_after(self.alloc, cut.0)?;
+        let count = parts.sum_from(0) + taken.len() as u64;
         let (low, high) = (self.low.max(cut.0.saturating_add(1)), self.high);
         self.fresh = kept;
         self.count -= count;
@@ -283,20 +318,25 @@ impl Deadlist {
     }
 
     /// How many entries were born after the cut, which is their space in blocks. It adds the segments' sizes; where the list doesn't have this
-    /// cut, it also counts in the segment that the cut divides. It costs the segments that end after the cut, which the meter counts. Where some
-    /// entries were born by the cut and some after it, it also costs a search in each run of that segment, and the waiting entries.
+    /// cut, it also counts in the segment that the cut divides. The meter counts the segments that end after the cut, and each entry that the
+    /// sum looks at. Where some entries were born by the cut and some after it, those are some in each run of the divided segment, and the
+    /// waiting entries; else there are none.
     pub fn space_after(&self, cut: Group, meter: &mut SegMeter) -> u64
         ensures space { result ≡ length (filter (is_after cut.0) self.now.entries) }
-        ensures meter { meter.new ≡ counted meter.old (reached_after cut.0 self.now.cuts) }
+        ensures reached { counted meter.old (reached_after cut.0 self.now.cuts) ≤ meter.new }
+        ensures looked { meter.new
+            ≤ meter.old + (reached_after cut.0 self.now.cuts + (self.now.steps + self.now.waiting)) }
         ensures never_lower { meter.old ≤ meter.new }
     {
         reach(meter, self.parts.reached_after(cut.0));
-        self.count_after(cut.0)
+        self.count_after(cut.0, meter)
     }
 
-    // How many entries were born after the cut.
-    fn count_after(&self, cut: u64) -> u64
-        ensures { result ≡ length (filter (is_after cut) self.now.entries) }
+    // How many entries were born after the cut. The meter counts those that it looks at.
+    fn count_after(&self, cut: u64, meter: &mut SegMeter) -> u64
+        ensures count { result ≡ length (filter (is_after cut) self.now.entries) }
+        ensures looked { meter.new ≤ meter.old + (self.now.steps + self.now.waiting) }
+        ensures never_lower { meter.old ≤ meter.new }
     {
         let count = self.count;
         if self.high <= cut {
@@ -305,25 +345,30 @@ impl Deadlist {
         if cut < self.low {
             return count;
         }
-        self.parts.sum_after(cut) + count_in(self.fresh.as_slice(), cut)
+        let sum = self.parts.sum_after(cut, meter);
+        sum + count_in(self.fresh.as_slice(), cut, meter)
     }
 
     /// How many entries were born by the cut, which is their space in blocks. It adds the segments' sizes; where the list doesn't have this cut,
-    /// it also counts in the segment that the cut divides. It costs the segments that end at the cut or before it and the divided one, which the
-    /// meter counts. Where some entries were born by the cut and some after it, it also costs a search in each run of the divided segment, and
-    /// the waiting entries.
+    /// it also counts in the segment that the cut divides. The meter counts the segments that end at the cut or before it and the divided one,
+    /// and each entry that the sum looks at. Where some entries were born by the cut and some after it, those are some in each run of the divided
+    /// segment, and the waiting entries; else there are none.
     pub fn space_upto(&self, cut: Group, meter: &mut SegMeter) -> u64
         ensures space { result ≡ length (filter (is_upto cut.0) self.now.entries) }
-        ensures meter { meter.new ≡ counted meter.old (reached_upto cut.0 self.now.cuts) }
+        ensures reached { counted meter.old (reached_upto cut.0 self.now.cuts) ≤ meter.new }
+        ensures looked { meter.new
+            ≤ meter.old + (reached_upto cut.0 self.now.cuts + (self.now.steps + self.now.waiting)) }
         ensures never_lower { meter.old ≤ meter.new }
     {
         reach(meter, self.parts.reached_upto(cut.0));
-        self.count_upto(cut.0)
+        self.count_upto(cut.0, meter)
     }
 
-    // How many entries were born by the cut.
-    fn count_upto(&self, cut: u64) -> u64
-        ensures { result ≡ length (filter (is_upto cut) self.now.entries) }
+    // How many entries were born by the cut. The meter counts those that it looks at.
+    fn count_upto(&self, cut: u64, meter: &mut SegMeter) -> u64
+        ensures count { result ≡ length (filter (is_upto cut) self.now.entries) }
+        ensures looked { meter.new ≤ meter.old + (self.now.steps + self.now.waiting) }
+        ensures never_lower { meter.old ≤ meter.new }
     {
         let count = self.count;
         if self.high <= cut {
@@ -333,7 +378,8 @@ impl Deadlist {
             return 0;
         }
         let fresh = self.fresh.as_slice();
-        self.parts.sum_upto(cut) + (fresh.len() as u64 - count_in(fresh, cut))
+        let sum = self.parts.sum_upto(cut, meter);
+        sum + (fresh.len() as u64 - count_in(fresh, cut, meter))
     }
 
     /// The entries, segment by segment, and then the waiting ones, which aren't sorted in yet. The meter counts all segments at once, however
@@ -390,6 +436,8 @@ impl Deadlist {
         ensures cuts { OnOk result (self.new.cuts ≡ with_cut group.0 self.old.cuts) }
         ensures stands { list_any (λ c. c == group.0) self.old.cuts ≡ true → IsOk result }
         ensures room { self.new.room ≡ self.old.room }
+        ensures waiting { self.new.waiting ≡ self.old.waiting }
+        ensures steps { self.new.steps ≤ self.old.steps }
         ensures unchanged { OnErr result (self.new ≡ self.old) }
         ensures err { IfErr result (λ e. e ≡ NoMemory) }
         ensures meter { meter.new
@@ -413,6 +461,8 @@ impl Deadlist {
         ensures cuts { OnOk result (self.new.cuts ≡ without_cut group.0 self.old.cuts) }
         ensures absent { list_any (λ c. c == group.0) self.old.cuts ≡ false → IsOk result }
         ensures room { self.new.room ≡ self.old.room }
+        ensures waiting { self.new.waiting ≡ self.old.waiting }
+        ensures steps { self.new.steps ≤ self.old.steps + length self.old.entries }
         ensures unchanged { OnErr result (self.new ≡ self.old) }
         ensures err { IfErr result (λ e. e ≡ NoMemory) }
         ensures meter { meter.new

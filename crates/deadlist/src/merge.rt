@@ -1,10 +1,12 @@
 //! Additions of entries to the segments of their births, one by one or a whole segment at a time.
-ghost use Rattle.std.specs.Prelude.{◌≡◌, ◌+◌, ◌<◌, ◌++◌, List, OnOk, IfOk, IsTrue};
+ghost use Rattle.std.specs.Prelude.{◌≡◌, ◌+◌, ◌≤◌, ◌<◌, ◌++◌, List, length, OnOk, IfOk, IsTrue};
 ghost use Rattle.std.specs.List.Sorted.{IsPermutation};
 ghost use Rattle.base.specs.declared.number.Dead.{Dead};
-ghost use Rattle.deadlist.specs.Segments.{IsCut, AreBornFrom, AreBornByIf, FitsAt, entries_of, cuts_of, with_cuts, pile_at, with_pile, last_with};
+ghost use Rattle.deadlist.specs.Bits.{search_steps};
+ghost use Rattle.deadlist.specs.Segments.{IsCut, AreBornFrom, AreBornByIf, AreAlike, FitsAt, entries_in, entries_of, cuts_of, most_steps, steps_of, with_cuts, pile_at, with_pile, last_with};
+ghost use Rattle.deadlist.specs.Spans.{spans};
 
-use crate::parts::Parts;
+use crate::parts::{Parts, Segment};
 use crate::pile::Pile;
 use base::number::Dead;
 use std::alloc::{AllocError, Global};
@@ -28,7 +30,7 @@ impl Parts {
     fn place_pile(&mut self, alloc: Global, pile: &Pile) -> Result<(), AllocError>
         requires { IsCut self.old }
         ensures entries { OnOk result
-            (IsPermutation (entries_of self.old ++ pile.now) (entries_of self.new)) }
+            (IsPermutation (entries_of self.old ++ pile.now.entries) (entries_of self.new)) }
         ensures cuts { OnOk result (cuts_of self.new ≡ cuts_of self.old) }
         ensures cut { OnOk result (IsCut self.new) }
     {
@@ -41,12 +43,12 @@ impl Parts {
 
     /// Adds the entries of a pile to the segment with that index.
     fn put_pile(&mut self, alloc: Global, at: usize, pile: Pile) -> Result<(), AllocError>
-        ensures closed { OnOk result (self.new.closed.items ≡ with_pile self.old.closed.items at
-            (pile_at self.new.closed.items self.new.last at)) }
-        ensures last { OnOk result (self.new.last ≡ last_with self.old.closed.items self.old.last at
-            (pile_at self.new.closed.items self.new.last at)) }
-        ensures pile { OnOk result (IsPermutation (pile_at self.old.closed.items self.old.last at ++ pile)
-            (pile_at self.new.closed.items self.new.last at)) }
+        ensures closed { OnOk result (spans self.new.closed.items ≡ with_pile (spans self.old.closed.items) at
+            (pile_at (spans self.new.closed.items) self.new.last.entries at)) }
+        ensures last { OnOk result (self.new.last.entries ≡ last_with (spans self.old.closed.items) self.old.last.entries at
+            (pile_at (spans self.new.closed.items) self.new.last.entries at)) }
+        ensures pile { OnOk result (IsPermutation (pile_at (spans self.old.closed.items) self.old.last.entries at ++ pile.entries)
+            (pile_at (spans self.new.closed.items) self.new.last.entries at)) }
     {
         let own = self.replace(at, Pile::new(alloc));
         let all = own.joined(pile)?;
@@ -57,7 +59,7 @@ impl Parts {
     /// Whether the segment with that index has no upper cut, or has it at `to` or later. Where `to` is None, only the last segment will do.
     fn ends_late(&self, at: usize, to: Option<u64>) -> bool
         ensures { IsTrue result
-            → (q : List Dead) → AreBornByIf to q → FitsAt self.now.closed.items at q }
+            → (q : List Dead) → AreBornByIf to q → FitsAt (spans self.now.closed.items) at q }
     {
         if at >= self.closed.len() {
             return true;
@@ -78,10 +80,10 @@ impl Parts {
         to: Option<u64>,
     ) -> Result<(), AllocError>
         requires cut { IsCut self.old }
-        requires from { AreBornFrom from pile }
-        requires to { AreBornByIf to pile }
+        requires from { AreBornFrom from pile.entries }
+        requires to { AreBornByIf to pile.entries }
         ensures entries { OnOk result
-            (IsPermutation (entries_of self.old ++ pile) (entries_of self.new)) }
+            (IsPermutation (entries_of self.old ++ pile.entries) (entries_of self.new)) }
         ensures cuts { OnOk result (cuts_of self.new ≡ cuts_of self.old) }
         ensures cut { OnOk result (IsCut self.new) }
     {
@@ -113,30 +115,45 @@ impl Parts {
         self.absorb(alloc, last, from, None)
     }
 
-    /// A copy with these entries added, each to the segment of its birth, and with the last segment settled.
+    /// A copy with these entries added, each to the segment of its birth, and with each segment settled.
     pub fn sorted(&self, alloc: Global, entries: &[Dead]) -> Result<Parts, AllocError>
         requires { IsCut self.now }
         ensures entries { IfOk result
             (λ p. IsPermutation (entries_of self.now ++ entries.now) (entries_of p)) }
         ensures cuts { IfOk result (λ p. cuts_of p ≡ cuts_of self.now) }
         ensures cut { IfOk result (λ p. IsCut p) }
+        ensures steps { IfOk result (λ p. steps_of p ≤ search_steps (length (entries_of p))) }
     {
         let mut parts = self.copy(alloc)?;
         parts.place_all(alloc, entries)?;
         parts.settled(alloc)
     }
 
-    /// The same entries and cuts, with the last segment settled, as `Pile::settled` says.
-    pub fn settled(self, alloc: Global) -> Result<Parts, AllocError>
-        requires { IsCut self }
-        ensures entries { IfOk result (λ p. IsPermutation (entries_of self) (entries_of p)) }
-        ensures cuts { IfOk result (λ p. cuts_of p ≡ cuts_of self) }
+    /// The same entries and cuts, with each segment settled, as `Pile::settled` says.
+    pub fn settled(&self, alloc: Global) -> Result<Parts, AllocError>
+        requires { IsCut self.now }
+        ensures entries { IfOk result (λ p. IsPermutation (entries_of self.now) (entries_of p)) }
+        ensures cuts { IfOk result (λ p. cuts_of p ≡ cuts_of self.now) }
         ensures cut { IfOk result (λ p. IsCut p) }
+        ensures steps { IfOk result (λ p. steps_of p ≤ search_steps (length (entries_of p))) }
     {
+        let closed = settled_all(alloc, self.closed.as_slice())?;
         let last = self.last.settled(alloc)?;
-        Ok(Parts {
-            closed: self.closed,
-            last,
-        })
+        Ok(Parts { closed, last })
     }
+}
+
+/// The same segments, where the entries of each are in order.
+fn settled_all(alloc: Global, segments: &[Segment]) -> Result<Vec<Segment>, AllocError>
+    ensures alike { IfOk result (λ v. AreAlike (spans segments.now) (spans v.items)) }
+    ensures steps { IfOk result
+        (λ v. most_steps v.items ≤ search_steps (length (entries_in (spans segments.now)))) }
+{
+    let mut settled = Vec::with_capacity(alloc, segments.len())?;
+    for segment in segments {
+        let upper = segment.upper;
+        let pile = segment.pile.settled(alloc)?;
+        settled.push(Segment { upper, pile })?;
+    }
+    Ok(settled)
 }

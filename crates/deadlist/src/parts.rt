@@ -1,8 +1,9 @@
 //! Segments of a dead list.
-ghost use Rattle.std.specs.Prelude.{◌≡◌, ◌+◌, ◌<◌, ◌++◌, ◌∷◌, [], filter, OnOk, OnErr, IfOk, IsOk, nat_le, nat_lt, true, false};
+ghost use Rattle.std.specs.Prelude.{◌≡◌, ◌+◌, ◌≤◌, ◌<◌, ◌++◌, ◌∷◌, [], filter, length, max, OnOk, OnErr, IfOk, IsOk, nat_le, nat_lt, true, false};
 ghost use Rattle.std.specs.List.Sorted.{IsPermutation};
 ghost use Rattle.deadlist.specs.Entries.{is_after, is_upto};
-ghost use Rattle.deadlist.specs.Segments.{IsCut, entries_of, cuts_of, ended, begun, has_cut, with_cut, without_cut, pile_at, with_pile, last_with};
+ghost use Rattle.deadlist.specs.Segments.{IsCut, entries_of, cuts_of, steps_of, ended, begun, has_cut, with_cut, without_cut, pile_at, with_pile, last_with};
+ghost use Rattle.deadlist.specs.Spans.{spans};
 
 use crate::pile::Pile;
 use base::number::{Dead, Group};
@@ -27,7 +28,8 @@ impl Parts {
     /// One segment without entries. It takes no memory.
     pub fn new(alloc: Global) -> Parts
         ensures closed { result.closed.items ≡ [] }
-        ensures last { result.last ≡ [] }
+        ensures last { result.last.entries ≡ [] }
+        ensures steps { result.last.steps ≡ 0 }
     {
         Parts {
             closed: Vec::new(alloc),
@@ -53,7 +55,7 @@ impl Parts {
     /// How many segments end at the cut or before it.
     pub fn upto(&self, cut: u64) -> usize
         requires { IsCut self.now }
-        ensures { result ≡ ended cut self.now.closed.items }
+        ensures { result ≡ ended cut (spans self.now.closed.items) }
     {
         self.closed.as_slice().partition_point(|s| s.upper.0 <= cut)
     }
@@ -61,7 +63,7 @@ impl Parts {
     /// How many segments end before the group.
     pub fn below(&self, group: u64) -> usize
         requires { IsCut self.now }
-        ensures { result ≡ begun group self.now.closed.items }
+        ensures { result ≡ begun group (spans self.now.closed.items) }
     {
         self.closed
             .as_slice()
@@ -70,7 +72,8 @@ impl Parts {
 
     /// The entries of the segment with that index.
     pub fn pile(&self, at: usize) -> &Pile
-        ensures { result.now ≡ pile_at self.now.closed.items self.now.last at }
+        ensures entries { result.now.entries ≡ pile_at (spans self.now.closed.items) self.now.last.entries at }
+        ensures steps { result.now.steps ≤ steps_of self.now }
     {
         if at < self.closed.len() {
             &self.closed[at].pile
@@ -81,9 +84,11 @@ impl Parts {
 
     /// Replaces the entries of the segment with that index, and answers those that it had.
     pub fn replace(&mut self, at: usize, pile: Pile) -> Pile
-        ensures closed { self.new.closed.items ≡ with_pile self.old.closed.items at pile }
-        ensures last { self.new.last ≡ last_with self.old.closed.items self.old.last at pile }
-        ensures old { result ≡ pile_at self.old.closed.items self.old.last at }
+        ensures closed { spans self.new.closed.items ≡ with_pile (spans self.old.closed.items) at pile.entries }
+        ensures last { self.new.last.entries
+            ≡ last_with (spans self.old.closed.items) self.old.last.entries at pile.entries }
+        ensures old { result.entries ≡ pile_at (spans self.old.closed.items) self.old.last.entries at }
+        ensures steps { steps_of self.new ≤ max (steps_of self.old) pile.steps }
     {
         if at < self.closed.len() {
             let segment = &mut self.closed[at];
@@ -94,10 +99,10 @@ impl Parts {
 
     /// Adds an entry to the segment with that index.
     fn put(&mut self, alloc: Global, at: usize, dead: Dead) -> Result<(), AllocError>
-        ensures closed { OnOk result (self.new.closed.items ≡ with_pile self.old.closed.items at
-            (pile_at self.old.closed.items self.old.last at ++ dead ∷ [])) }
-        ensures last { OnOk result (self.new.last ≡ last_with self.old.closed.items self.old.last at
-            (pile_at self.old.closed.items self.old.last at ++ dead ∷ [])) }
+        ensures closed { OnOk result (spans self.new.closed.items ≡ with_pile (spans self.old.closed.items) at
+            (pile_at (spans self.old.closed.items) self.old.last.entries at ++ dead ∷ [])) }
+        ensures last { OnOk result (self.new.last.entries ≡ last_with (spans self.old.closed.items) self.old.last.entries at
+            (pile_at (spans self.old.closed.items) self.old.last.entries at ++ dead ∷ [])) }
     {
         let mut pile = self.replace(at, Pile::new(alloc));
         pile.push(dead)?;
@@ -120,8 +125,8 @@ impl Parts {
     /// Whether there is a cut at this group. `at` is how many segments end at it or before it.
     pub fn stands(&self, at: usize, cut: u64) -> bool
         requires cut { IsCut self.now }
-        requires at { at ≡ ended cut self.now.closed.items }
-        ensures { result ≡ has_cut cut self.now.closed.items }
+        requires at { at ≡ ended cut (spans self.now.closed.items) }
+        ensures { result ≡ has_cut cut (spans self.now.closed.items) }
     {
         if at == 0 {
             return false;
@@ -133,10 +138,13 @@ impl Parts {
     /// cut or before it.
     fn divided(&self, alloc: Global, at: usize, cut: u64) -> Result<(Pile, Pile), AllocError>
         requires cut { IsCut self.now }
-        requires at { at ≡ ended cut self.now.closed.items }
-        ensures { IfOk result
-            (λ p. (p.0 ≡ filter (is_upto cut) (pile_at self.now.closed.items self.now.last at))
-            × (p.1 ≡ filter (is_after cut) (pile_at self.now.closed.items self.now.last at))) }
+        requires at { at ≡ ended cut (spans self.now.closed.items) }
+        ensures entries { IfOk result
+            (λ p. (p.0.entries
+            ≡ filter (is_upto cut) (pile_at (spans self.now.closed.items) self.now.last.entries at))
+            × (p.1.entries
+            ≡ filter (is_after cut) (pile_at (spans self.now.closed.items) self.now.last.entries at))) }
+        ensures steps { IfOk result (λ p. (p.0.steps ≤ steps_of self.now) × (p.1.steps ≤ steps_of self.now)) }
     {
         let pile = self.pile(at);
         if self.stands(at, cut) {
@@ -157,6 +165,8 @@ impl Parts {
         ensures taken_cuts { IfOk result
             (λ p. cuts_of p ≡ filter (λ c. nat_lt cut c) (cuts_of self.old)) }
         ensures taken_cut { IfOk result (λ p. IsCut p) }
+        ensures kept_steps { OnOk result (steps_of self.new ≤ steps_of self.old) }
+        ensures taken_steps { IfOk result (λ p. steps_of p ≤ steps_of self.old) }
         ensures err_closed { OnErr result (self.new.closed.items ≡ self.old.closed.items) }
         ensures err_last { OnErr result (self.new.last ≡ self.old.last) }
     {
@@ -175,7 +185,8 @@ impl Parts {
         ensures entries { OnOk result (IsPermutation (entries_of self.old) (entries_of self.new)) }
         ensures cuts { OnOk result (cuts_of self.new ≡ with_cut group.0 (cuts_of self.old)) }
         ensures cut { OnOk result (IsCut self.new) }
-        ensures stands { has_cut group.0 self.old.closed.items ≡ true → IsOk result }
+        ensures steps { OnOk result (steps_of self.new ≤ steps_of self.old) }
+        ensures stands { has_cut group.0 (spans self.old.closed.items) ≡ true → IsOk result }
         ensures err_closed { OnErr result (self.new.closed.items ≡ self.old.closed.items) }
         ensures err_last { OnErr result (self.new.last ≡ self.old.last) }
     {
@@ -195,7 +206,8 @@ impl Parts {
         ensures entries { OnOk result (entries_of self.new ≡ entries_of self.old) }
         ensures cuts { OnOk result (cuts_of self.new ≡ without_cut group.0 (cuts_of self.old)) }
         ensures cut { OnOk result (IsCut self.new) }
-        ensures absent { has_cut group.0 self.old.closed.items ≡ false → IsOk result }
+        ensures steps { OnOk result (steps_of self.new ≤ steps_of self.old + length (entries_of self.old)) }
+        ensures absent { has_cut group.0 (spans self.old.closed.items) ≡ false → IsOk result }
         ensures err_closed { OnErr result (self.new.closed.items ≡ self.old.closed.items) }
         ensures err_last { OnErr result (self.new.last ≡ self.old.last) }
     {

@@ -1,8 +1,11 @@
 //! Entries in order of birth.
-ghost use Rattle.std.specs.Prelude.{◌≡◌, ◌-◌, ◌≤◌, ◌++◌, length, filter, take, drop, IfOk};
+ghost use Rattle.std.specs.Prelude.{◌≡◌, ◌+◌, ◌-◌, ◌≤◌, ◌<◌, ◌++◌, length, filter, take, drop, IfOk, slice_index_or};
 ghost use Rattle.std.specs.List.Sorted.{IsNonDecreasingBy, IsPermutation};
-ghost use Rattle.deadlist.specs.Entries.{birth_of, is_after, is_upto};
+ghost use Rattle.base.specs.Counting.{counted};
+ghost use Rattle.base.specs.declared.number.Dead.{Dead};
+ghost use Rattle.deadlist.specs.Entries.{birth_of, is_after, is_upto, run_steps};
 
+use base::meter::SegMeter;
 use base::number::Dead;
 use std::alloc::{AllocError, Global};
 use std::marker::Model;
@@ -88,9 +91,39 @@ impl Run {
         })
     }
 
-    /// How many of its entries were born by the cut. It costs the logarithm of their number.
-    pub fn count_upto(&self, cut: u64) -> usize
+    // When the entry with that index was born. The meter counts the entry.
+    fn birth_at(&self, at: usize, meter: &mut SegMeter) -> u64
+        requires { at < length self.now }
+        ensures birth { (d : Dead) → result ≡ birth_of (slice_index_or self.now at d) }
+        ensures rising { IsNonDecreasingBy birth_of self.now }
+        ensures metered { meter.new ≡ counted meter.old 1 }
+        ensures never_lower { meter.old ≤ meter.new }
+    {
+        meter.add_one();
+        self.as_slice()[at].birth.0
+    }
+
+    /// How many of its entries were born by the cut. It looks at an entry for each halving of their number, which the meter counts.
+    pub fn count_upto(&self, cut: u64, meter: &mut SegMeter) -> usize
         ensures count { result ≡ length (filter (is_upto cut) self.now) }
+        ensures looked { meter.new ≤ meter.old + run_steps self.now }
+        ensures never_lower { meter.old ≤ meter.new }
+    {
+        let mut low = 0;
+        let mut high = self.len();
+        while low < high {
+            let middle = low + (high - low) / 2;
+            if self.birth_at(middle, meter) <= cut {
+                low = middle + 1;
+            } else {
+                high = middle;
+            }
+        }
+        low
+    }
+
+    // Where those born by the cut end.
+    fn place_of(&self, cut: u64) -> usize
         ensures within { result ≤ length self.now }
         ensures low { take result self.now ≡ filter (is_upto cut) self.now }
         ensures high { drop result self.now ≡ filter (is_after cut) self.now }
@@ -138,7 +171,7 @@ impl Run {
         ensures { IfOk result
             (λ p. (p.0 ≡ filter (is_upto cut) self.now) × (p.1 ≡ filter (is_after cut) self.now)) }
     {
-        let (at, len) = (self.count_upto(cut), self.len());
+        let (at, len) = (self.place_of(cut), self.len());
         let low = self.part(alloc, 0, at)?;
         let high = self.part(alloc, at, len)?;
         Ok((low, high))

@@ -1,9 +1,11 @@
 //! How many entries were born by a cut and after it, from the sizes of segments.
-ghost use Rattle.std.specs.Prelude.{◌≡◌, ◌≤◌, ◌<◌, ◌^◌, ◌++◌, length, filter, take, drop};
+ghost use Rattle.std.specs.Prelude.{◌≡◌, ◌+◌, ◌≤◌, ◌<◌, ◌^◌, ◌++◌, length, filter, take, drop};
 ghost use Rattle.deadlist.specs.Entries.{is_after, is_upto};
-ghost use Rattle.deadlist.specs.Segments.{IsCut, entries_in, entries_of, cuts_of, reached_upto, reached_after};
+ghost use Rattle.deadlist.specs.Segments.{IsCut, entries_in, entries_of, cuts_of, steps_of, reached_upto, reached_after};
+ghost use Rattle.deadlist.specs.Spans.{spans};
 
 use crate::parts::Parts;
+use base::meter::SegMeter;
 
 impl Parts {
     /// How many segments a sum of the entries born by the cut reaches: those that end at it or before it, and the one that it divides.
@@ -30,7 +32,7 @@ impl Parts {
     fn sum_before(&self, at: usize) -> u64
         requires at { at ≤ length self.now.closed.items }
         requires fits { length (entries_of self.now) < 2 ^ 64 }
-        ensures { result ≡ length (entries_in (take at self.now.closed.items)) }
+        ensures { result ≡ length (entries_in (take at (spans self.now.closed.items))) }
     {
         let mut sum = 0;
         for i in 0..at {
@@ -40,10 +42,10 @@ impl Parts {
     }
 
     /// How many entries the segments from index `at` on have.
-    fn sum_from(&self, at: usize) -> u64
+    pub fn sum_from(&self, at: usize) -> u64
         requires at { at ≤ length self.now.closed.items }
         requires fits { length (entries_of self.now) < 2 ^ 64 }
-        ensures { result ≡ length (entries_in (drop at self.now.closed.items) ++ self.now.last) }
+        ensures { result ≡ length (entries_in (drop at (spans self.now.closed.items)) ++ self.now.last.entries) }
     {
         let mut sum = self.last.len();
         for i in at..self.closed.len() {
@@ -52,31 +54,35 @@ impl Parts {
         sum
     }
 
-    /// How many entries were born by the cut.
-    pub fn sum_upto(&self, cut: u64) -> u64
+    /// How many entries were born by the cut. The meter counts those that it looks at in the segment that the cut divides.
+    pub fn sum_upto(&self, cut: u64, meter: &mut SegMeter) -> u64
         requires cut { IsCut self.now }
         requires fits { length (entries_of self.now) < 2 ^ 64 }
-        ensures { result ≡ length (filter (is_upto cut) (entries_of self.now)) }
+        ensures sum { result ≡ length (filter (is_upto cut) (entries_of self.now)) }
+        ensures looked { meter.new ≤ meter.old + steps_of self.now }
+        ensures never_lower { meter.old ≤ meter.new }
     {
         let at = self.upto(cut);
         let before = self.sum_before(at);
         if self.stands(at, cut) {
             return before;
         }
-        before + self.pile(at).count_upto(cut)
+        before + self.pile(at).count_upto(cut, meter)
     }
 
-    /// How many entries were born after the cut.
-    pub fn sum_after(&self, cut: u64) -> u64
+    /// How many entries were born after the cut. The meter counts those that it looks at in the segment that the cut divides.
+    pub fn sum_after(&self, cut: u64, meter: &mut SegMeter) -> u64
         requires cut { IsCut self.now }
         requires fits { length (entries_of self.now) < 2 ^ 64 }
-        ensures { result ≡ length (filter (is_after cut) (entries_of self.now)) }
+        ensures sum { result ≡ length (filter (is_after cut) (entries_of self.now)) }
+        ensures looked { meter.new ≤ meter.old + steps_of self.now }
+        ensures never_lower { meter.old ≤ meter.new }
     {
         let at = self.upto(cut);
         let from = self.sum_from(at);
         if self.stands(at, cut) {
             return from;
         }
-        from - self.pile(at).count_upto(cut)
+        from - self.pile(at).count_upto(cut, meter)
     }
 }

@@ -6,7 +6,9 @@ use Rattle.std.specs.Arc.{arc_value}
 use Rattle.std.specs.FinSet.{len, difference}
 use Rattle.base.specs.Map.{Map, BlockSet, blocks}
 use Rattle.base.specs.declared.number.Dead.{Dead}
+use Rattle.deadlist.specs.Bits.{search_steps}
 use Rattle.deadlist.specs.Entries.{is_upto, is_after}
+use Rattle.deadlist.specs.Held.{Held}
 use Rattle.model.specs.World.{Snap}
 use Rattle.snapshots.specs.declared.kept.Kept.{Kept}
 use Rattle.world.specs.Blocks.{upto, after}
@@ -73,14 +75,27 @@ entry_count a ks es = sum_by (kept_count a) ks + asked_count a None es
 abbrev pub gone_size : Asked → List Gone → ℕ
 gone_size a gs = sum_by (λ g. size_on a.side a.cut.0 g.blocks) (filter (λ g. is_asked a g.group) gs)
 
--- how many segments the dead list of a dataset of this group has, where it is asked for (profile)
-abbrev pub asked_segments : Asked → Option ℕ → List ℕ → ℕ
-asked_segments a group cuts = if is_asked a group then length cuts + 1 else 0
+-- how much a count in a dead list may add to the count of segments: each of its segments, and each entry that it looks at (profile)
+abbrev pub reach_of : Held → ℕ
+reach_of h = (length h.cuts + 1) + (h.steps + h.waiting)
 
--- and that of a snapshot (profile)
-abbrev pub kept_segments : Asked → Kept → ℕ
-kept_segments a k = asked_segments a (Some k.snapshot.group) (arc_value k.dead).cuts
+-- of that of a dataset of this group, where it is asked for (profile)
+abbrev pub asked_reach : Asked → Option ℕ → Held → ℕ
+asked_reach a group h = if is_asked a group then reach_of h else 0
 
--- and all these and that of the live map (profile)
-abbrev pub segment_count : Asked → List Kept → List ℕ → ℕ
-segment_count a ks cuts = sum_by (kept_segments a) ks + asked_segments a None cuts
+-- and of that of a snapshot (profile)
+abbrev pub kept_reach : Asked → Kept → ℕ
+kept_reach a k = asked_reach a (Some k.snapshot.group) (arc_value k.dead)
+
+-- and of all these and that of the live map (profile)
+abbrev pub whole_reach : Asked → List Kept → Held → ℕ
+whole_reach a ks h = sum_by (kept_reach a) ks + asked_reach a None h
+
+-- How much a count in the dead list of a dataset of a file system adds to the count of segments, at most, where so many blocks have gone
+-- with it: the one segment, the entries that wait, which are 126 at most, and of the others about the square of the logarithm (profile)
+abbrev pub most_reached : ℕ → ℕ
+most_reached n = 127 + search_steps n
+
+-- and of what has gone with some datasets, each in a list of its own (profile)
+abbrev pub lists_reach : List Gone → ℕ
+lists_reach = sum_by (λ g. most_reached (len g.blocks))

@@ -4,8 +4,8 @@ use Rattle.std.proofs.Common.{◌++◌}
 use Rattle.deadlist.specs.Entries.{run_entries}
 use Rattle.deadlist.proofs.pile.stack_many.Goals as goal
 
-pub returns : goal.returns
-returns c =
+pub returns-clause-entries : goal.returns-clause-entries
+returns-clause-entries c =
     let rs = run_entries c.args.runs.now.items in
     let run = c.in_ok-run.run' in
     let own = c.in_ok-own.own.items in

@@ -9,4 +9,7 @@ loop-run-preserved c =
     let now = run_entries c.loop-run.stacked.items in
     let new = run_entries c.stack.new.runs.items in
     let put : IsPermutation (now ++ c.run-item.result) new = rw c.in_ok-copy.ensures at c.in_ok-stack.ensures.ok in
-    perm_piece run_items [] now new c.args.runs.now c.loop-run.run-index c.run-item.result (omega arith) c.run-item.is c.loop-run.invariant put
+    record {
+      entries = perm_piece run_items [] now new c.args.runs.now c.loop-run.run-index c.run-item.result (omega arith) c.run-item.is c.loop-run.invariant.entries put;
+      halved = c.in_ok-stack.ensures.halved;
+    }

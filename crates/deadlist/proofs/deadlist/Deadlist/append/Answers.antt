@@ -21,3 +21,9 @@ returns-in-Ok-clause-cuts c = c.in-Ok.ensures.cuts
 
 pub returns-in-Err-clause-unchanged : goal.returns-in-Err-clause-unchanged
 returns-in-Err-clause-unchanged c = c.in-Err.ensures.unchanged
+
+pub returns-in-Ok-clause-waiting : goal.returns-in-Ok-clause-waiting
+returns-in-Ok-clause-waiting c = c.in-Ok.ensures.waiting
+
+pub returns-in-Ok-clause-steps : goal.returns-in-Ok-clause-steps
+returns-in-Ok-clause-steps c = c.in-Ok.ensures.steps

@@ -3,6 +3,7 @@ use Rattle.std.specs.List.Sorted.{IsPermutation}
 use Rattle.std.proofs.lemmas.List.Sorted.{IsPermutation-trans, length_permutation}
 use Rattle.base.specs.declared.number.Dead.{Dead}
 use Rattle.deadlist.specs.Segments.{AreBornFrom, AreBornBy, entries_of}
+use Rattle.deadlist.proofs.Logs.{search_steps_le}
 use Rattle.deadlist.proofs.Births.{born_from_weaker, born_by_weaker, born_from_append, born_by_append}
 use Rattle.deadlist.proofs.Orders.{born_from_permuted, born_by_permuted}
 use Rattle.deadlist.proofs.Merges.{perm_four}
@@ -49,3 +50,10 @@ returns-clause-entries c =
     c.in_ok-extend_from_slice.ensures.items ∙ (λ i. (c.in_ok-fresh.ensures.items ∙ c.as_slice.ensures.value) i ++ c.as_slice-2.ensures.value i) in
     let perm = perm_four (entries_of p) fs (entries_of o) gs (entries_of new) all in
     rw (← c.self.view_is, ← c.other.view_is) (subst (λ (ds : List Dead). IsPermutation ((entries_of p ++ fs) ++ (entries_of o ++ gs)) (entries_of new ++ ds)) (sym fresh) perm)
+
+pub returns-clause-steps : goal.returns-clause-steps
+returns-clause-steps c =
+    let new = c.in_ok-parts-2.parts in
+    let l = length-append (entries_of new) c.extend_from_slice.new.self.items in
+    let le = search_steps_le (length (entries_of new)) (length (entries_of new ++ c.extend_from_slice.new.self.items)) (omega (arith, l)) in
+    omega (arith, le, c.in_ok-parts-2.ensures.steps)

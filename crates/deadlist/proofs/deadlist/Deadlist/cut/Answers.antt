@@ -1,6 +1,8 @@
 use Rattle.std.proofs.Common.{◌++◌, arith, ap, sym, ◌∙◌}
+use Rattle.deadlist.specs.Piled.{Piled}
+use Rattle.deadlist.specs.Spans.{spans}
 use Rattle.deadlist.specs.Held.{Held}
-use Rattle.deadlist.specs.Segments.{entries_of, with_cut}
+use Rattle.deadlist.specs.Segments.{entries_of, most_steps, with_cut}
 use Rattle.std.proofs.lemmas.Bool.{false≢true}
 use Rattle.std.proofs.lemmas.List.Sorted.{length_permutation, IsPermutation-append_left}
 use Rattle.deadlist.proofs.Counts.{has_cut_any}
@@ -16,7 +18,7 @@ returns-in_err-cut-clause-meter c =
     let small = c.count-before.type_inv in
     let old = c.args.meter.now in
     let none = counted_none old (omega (arith, e, small)) in
-    rw (← c.self.view_is) (counted_standing p.closed.items c.args.group.0 old c.if-not-stands.meter 0 1 c.stands.result c.stands.ensures
+    rw (← c.self.view_is) (counted_standing (spans p.closed.items) c.args.group.0 old c.if-not-stands.meter 0 1 c.stands.result c.stands.ensures
     (λ t. elim c.if-not-stands.branch [
       | then-not-stands w ↦ absurd (false≢true (sym w.if-not-stands.true ∙ t))
       | else-not-stands w ↦ w.meter-is ∙ none
@@ -33,7 +35,7 @@ returns-clause-meter c =
     let small = c.count-before.type_inv in
     let old = c.args.meter.now in
     let none = counted_none old (omega (arith, e, small)) in
-    rw (← c.self.view_is) (counted_standing p.closed.items c.args.group.0 old c.if-not-stands.meter 0 1 c.stands.result c.stands.ensures
+    rw (← c.self.view_is) (counted_standing (spans p.closed.items) c.args.group.0 old c.if-not-stands.meter 0 1 c.stands.result c.stands.ensures
     (λ t. elim c.if-not-stands.branch [
       | then-not-stands w ↦ absurd (false≢true (sym w.if-not-stands.true ∙ t))
       | else-not-stands w ↦ w.meter-is ∙ none
@@ -63,7 +65,7 @@ returns-clause-entries c =
 pub returns-in_err-cut-clause-stands : goal.returns-in_err-cut-clause-stands
 returns-in_err-cut-clause-stands c =
     let p = c.self.inside.parts in
-    rw (← c.self.view_is) (λ h. absurd (false≢true (c.in_err-cut.ensures.stands (has_cut_any p.closed.items c.args.group.0 ∙ h))))
+    rw (← c.self.view_is) (λ h. absurd (false≢true (c.in_err-cut.ensures.stands (has_cut_any (spans p.closed.items) c.args.group.0 ∙ h))))
 
 pub returns-clause-cuts : goal.returns-clause-cuts
 returns-clause-cuts c =
@@ -82,3 +84,15 @@ returns-clause-never_lower c =
       | then-not-stands w ↦ omega (arith, w.meter-is, w.add_one.ensures.never_lower)
       | else-not-stands w ↦ omega (arith, w.meter-is)
     ]
+
+pub returns-in_err-cut-clause-steps : goal.returns-in_err-cut-clause-steps
+returns-in_err-cut-clause-steps c =
+    let was = ap (λ (h : Held). h.steps) c.self.view_is in
+    let closed = ap most_steps c.in_err-cut.ensures.err_closed in
+    let last = ap (λ (p : Piled). p.steps) c.in_err-cut.ensures.err_last in
+    omega (arith, was, closed, last)
+
+pub returns-clause-steps : goal.returns-clause-steps
+returns-clause-steps c =
+    let was = ap (λ (h : Held). h.steps) c.self.view_is in
+    omega (arith, was, c.in_ok-cut.ensures.steps)

@@ -30,3 +30,13 @@ invariant_of-self c =
       subst (AreBornFrom c.min-self-inside.result) (sym is) (born_from_append c.min-self-inside.result old (d ∷ []) (born_from_weaker s.low c.min-self-inside.result old c.self.invariant.2 (omega arith)) (omega arith, tt)),
       subst (AreBornBy c.max-self-inside.result) (sym is) (born_by_append c.max-self-inside.result old (d ∷ []) (born_by_weaker s.high c.max-self-inside.result old c.self.invariant.3 (omega arith)) (omega arith, tt)),
     )
+
+pub returns-clause-waiting : goal.returns-clause-waiting
+returns-clause-waiting c =
+    let l = length-append c.self.inside.fresh.items (c.args.dead ∷ []) in
+    let put = ap length c.push_reserved.ensures.items in
+    let was = ap (λ (h : Held). h.waiting) c.self.view_is in
+    omega (arith, l, put, was)
+
+pub returns-clause-steps : goal.returns-clause-steps
+returns-clause-steps c = ap (λ (h : Held). h.steps) c.self.view_is

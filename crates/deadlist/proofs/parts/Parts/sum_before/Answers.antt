@@ -1,4 +1,5 @@
 use Rattle.std.proofs.Common.{arith, length-append}
+use Rattle.deadlist.specs.Spans.{spans}
 use Rattle.deadlist.specs.Segments.{entries_in}
 use Rattle.deadlist.proofs.Counts.{part_le, take_pile}
 use Rattle.deadlist.proofs.parts.Parts.sum_before.Goals as goal
@@ -8,7 +9,7 @@ overflow_add-sum c =
     let s = c.args.self.now in
     let at = c.requires.at in
     let le = part_le s.closed.items c.loop-i.i c.index.result.now (omega arith) c.index.ensures in
-    let all = length-append (entries_in s.closed.items) s.last in
+    let all = length-append (entries_in (spans s.closed.items)) s.last.entries in
     let fits = c.requires.fits in
     let sum = c.loop-i.invariant in
     let len = c.len-sum.ensures in
