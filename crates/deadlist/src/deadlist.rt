@@ -119,7 +119,8 @@ impl Deadlist {
 
     /// Makes room for that many pushes, until another call that changes the list. Once at least 64 entries wait, and at least as many as the
     /// list has segments, it also sorts these in: each costs a binary search over the cuts, and runs that are merged cost their entries. Then
-    /// the meter counts all segments. NoMemory where memory is refused, and then nothing is changed.
+    /// the meter counts all segments. NoMemory where memory is refused, or where the list with these pushes would have more entries than a u64
+    /// counts; then nothing is changed.
     pub fn reserve(&mut self, n: usize, meter: &mut SegMeter) -> Result<(), Refusal>
         ensures entries { IsPermutation self.old.entries self.new.entries }
         ensures cuts { self.new.cuts ≡ self.old.cuts }

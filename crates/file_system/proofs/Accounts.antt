@@ -28,7 +28,7 @@ use Rattle.world.proofs.lists.SetCounts.{same_members, from_difference, no-empty
 use Rattle.world.proofs.maps.BlockCounts.{len-blocks}
 use Rattle.world.proofs.lineage.DeadChanges.{dead_after}
 use Rattle.world.proofs.lineage.Shuffled.{lists_shuffled, written_is, written_few}
-use Rattle.file_system.specs.Dead.{blocks_kept, group_kept, newest_blocks, written_from, snaps_in, IsAccounted, AreAccounted, IsAbove, HasGained}
+use Rattle.file_system.specs.Dead.{blocks_kept, group_kept, newest_blocks, written_from, snaps_in, IsAccounted, AreAccounted, IsAbove, HasGained, IsPlain}
 use Rattle.file_system.specs.Writes.{newest_group}
 use Rattle.file_system.proofs.Newest.{last_is}
 use Rattle.file_system.proofs.Releases.{map_filter}
@@ -72,12 +72,12 @@ fresh_dead bs es ks s e k none = subst (λ x. Lists (map dead_block x) (differen
 -- its live map kept as a snapshot, with its dead list
 module _ (bs : BlockSet) (ks later : List Kept) (k : Kept) (live : Map) (fresh : List Dead) (each : AreAccounted bs ks)
     (own : Lists (map dead_block (arc_value k.dead).entries) (difference (newest_blocks bs (snaps_in ks)) (blocks live))) (map_is : k.snapshot.map ≡ live)
-    (written : k.written ≡ size_without (blocks live) (newest_blocks bs (snaps_in ks))) (is : later ≡ ks ++ k ∷ []) (bare : fresh ≡ []) (uncut : (arc_value k.dead).cuts ≡ []) where
+    (written : k.written ≡ size_without (blocks live) (newest_blocks bs (snaps_in ks))) (is : later ≡ ks ++ k ∷ []) (bare : fresh ≡ []) (plain : IsPlain (arc_value k.dead)) where
   pub taken_accounted : AreAccounted bs later
   taken_accounted = subst (AreAccounted bs) (sym is)
       (accounted_more bs ks k each (record {
         dead = subst (λ m. Lists (map dead_block (arc_value k.dead).entries) (difference (newest_blocks bs (snaps_in ks)) (blocks m))) (sym map_is) own;
-        uncut = uncut;
+        plain = plain;
         written = written ∙ ap (λ m. size_without (blocks m) (newest_blocks bs (snaps_in ks))) (sym map_is);
       }))
 
@@ -162,21 +162,20 @@ pub dead_changed : (bs : BlockSet) (base : ℕ) (m new : Map) (c : Changes) (g y
     → Lists (map dead_block old) (difference (newest_blocks bs snaps) (blocks m)) → Lists (map dead_block later) (difference (newest_blocks bs snaps) (blocks new))
 dead_changed bs base m new c g young states v is unique snaps above late early old later released gained let_go to own =
     let newest = newest_group base snaps in
-    let sorted = lists_shuffled dead_block old gained.own (difference (newest_blocks bs snaps) (blocks m)) gained.sorted own in
-    let after = dead_after m c g young states v is unique.one (newest_blocks bs snaps) newest above.closed above.kept late early (map dead_block gained.own) sorted in
-    let same : map dead_block later ≡ map dead_block gained.own ++ entries_upto newest v.released =
-    ap (map dead_block) gained.gained ∙ map-append dead_block gained.own (filter (is_upto newest) released)
-    ∙ ap (λ l. map dead_block gained.own ++ l) (map_filter dead_block (λ b. leb b.birth newest) released ∙ ap (entries_upto newest) (sym let_go)) in
+    let after = dead_after m c g young states v is unique.one (newest_blocks bs snaps) newest above.closed above.kept late early (map dead_block old) own in
+    let same : map dead_block (old ++ filter (is_upto newest) released) ≡ map dead_block old ++ entries_upto newest v.released =
+    map-append dead_block old (filter (is_upto newest) released)
+    ∙ ap (λ l. map dead_block old ++ l) (map_filter dead_block (λ b. leb b.birth newest) released ∙ ap (entries_upto newest) (sym let_go)) in
+    let longer : Lists (map dead_block (old ++ filter (is_upto newest) released)) (difference (newest_blocks bs snaps) (blocks new)) =
     subst (λ l. Lists l (difference (newest_blocks bs snaps) (blocks new))) (sym same)
-    (subst (λ x. Lists (map dead_block gained.own ++ entries_upto newest v.released) (difference (newest_blocks bs snaps) (blocks x))) to after)
+    (subst (λ x. Lists (map dead_block old ++ entries_upto newest v.released) (difference (newest_blocks bs snaps) (blocks x))) to after) in
+    lists_shuffled dead_block (old ++ filter (is_upto newest) released) later (difference (newest_blocks bs snaps) (blocks new)) gained longer
 
 -- a list that gains nothing
 pub none_gained : (es rs : List Dead) (newest : ℕ) → length (filter (is_upto newest) rs) ≡ 0 → HasGained es es rs newest
-none_gained es rs newest none = record {
-  own = es;
-  sorted = IsPermutation-refl es;
-  gained = sym (append-nil es) ∙ ap (λ l. es ++ l) (sym (no_length (filter (is_upto newest) rs) none));
-}
+none_gained es rs newest none =
+    let same : es ++ filter (is_upto newest) rs ≡ es = ap (λ l. es ++ l) (no_length (filter (is_upto newest) rs) none) ∙ append-nil es in
+    subst (λ l. IsPermutation l es) (sym same) (IsPermutation-refl es)
   where
     no_length : (l : List Dead) → length l ≡ 0 → l ≡ []
     no_length [] e = refl

@@ -11,7 +11,7 @@ use Rattle.model.specs.Sums.{size_without}
 use Rattle.snapshots.specs.declared.kept.Kept.{Kept}
 use Rattle.world.specs.Deadlists.{Lists}
 use Rattle.world.specs.Worlds.{AreRising}
-use Rattle.file_system.specs.Dead.{snaps_in, newest_blocks, IsAccounted, AreAccounted}
+use Rattle.file_system.specs.Dead.{snaps_in, newest_blocks, IsAccounted, AreAccounted, IsPlain}
 use Rattle.file_system.specs.Deferred.{edited_if, IsEdited, edit_of}
 use Rattle.file_system.specs.declared.mark.SnapshotEdit.{SnapshotEdit}
 use Rattle.file_system.specs.declared.mark.SnapshotEdit.TheVariants.{Defer, SetTags}
@@ -75,7 +75,7 @@ it_accounted : (bs : BlockSet) (now next : Kept) → next.snapshot.map ≡ now.s
 it_accounted bs now next map_is dead written a = record {
   dead = subst (λ m. Lists (map dead_block (arc_value next.dead).entries) (difference bs (blocks m))) (sym map_is)
       (subst (λ (h : Held). Lists (map dead_block h.entries) (difference bs (blocks now.snapshot.map))) (sym dead) a.dead);
-  uncut = ap (λ (h : Held). h.cuts) dead ∙ a.uncut;
+  plain = subst IsPlain (sym dead) a.plain;
   written = written ∙ a.written ∙ ap (λ m. size_without (blocks m) bs) (sym map_is);
 }
 

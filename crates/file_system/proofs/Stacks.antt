@@ -229,7 +229,7 @@ taken_all (k ∷ ks) (suc i) e = ap (λ l. k ∷ l) (taken_all ks i (omega arith
 -- none of their dead lists is cut
 pub are_uncut : (bs : BlockSet) (ks : List Kept) → AreAccounted bs ks → AreUncut ks
 are_uncut bs [] each = tt
-are_uncut bs (k ∷ ks) each = (each.0.uncut, are_uncut (blocks k.snapshot.map) ks each.1)
+are_uncut bs (k ∷ ks) each = (each.0.plain.uncut, are_uncut (blocks k.snapshot.map) ks each.1)
 
 pub uncut_at : (ks : List Kept) (i : ℕ) (k : Kept) → AreUncut ks → slice_get ks i ≡ Some k → (arc_value k.dead).cuts ≡ []
 uncut_at [] i k each e = absurd (no_item i k e)

@@ -1,5 +1,5 @@
 -- The dead lists of a file system's datasets.
-use Rattle.std.specs.Prelude.{◌≡◌, ◌≤◌, ◌++◌, ℕ, List, [], ◌∷◌, Option, None, Some, map, filter, if◌then◌else◌}
+use Rattle.std.specs.Prelude.{◌≡◌, ◌≤◌, ◌++◌, ℕ, List, [], ◌∷◌, Option, None, Some, map, filter, length, if◌then◌else◌}
 use Rattle.std.specs.FinSet.{difference}
 use Rattle.std.specs.Arc.{arc_value}
 use Rattle.std.specs.Option.{option_map, option_map_or}
@@ -7,7 +7,9 @@ use Rattle.std.specs.List.Sorted.{IsPermutation}
 use Rattle.base.specs.Map.{Map, Block, BlockSet, blocks}
 use Rattle.base.specs.Surveys.{dead_block}
 use Rattle.base.specs.declared.number.Dead.{Dead}
+use Rattle.deadlist.specs.Bits.{search_steps}
 use Rattle.deadlist.specs.Entries.{is_upto}
+use Rattle.deadlist.specs.Held.{Held}
 use Rattle.base.specs.Names.{same_name}
 use Rattle.model.specs.World.{Snap}
 use Rattle.model.specs.Sums.{size_without}
@@ -47,11 +49,18 @@ blocks_kept bs (Some k) = blocks k.snapshot.map
 abbrev pub group_kept : ℕ → Option Kept → ℕ
 group_kept base k = option_map_or (λ x. x.snapshot.group) k base
 
--- a snapshot's dead list has what stands before it, these blocks, and it hasn't, each block once, in one segment; and what it has that
--- these blocks lack is counted (On-Disk Specification, chapter 4: ds_deadlist_obj; zfsprops(7): written; segments are profile)
+-- A dead list of a file system has one segment; of its entries a sum looks at no more than the square of the logarithm, or about that, and
+-- at those that wait, which are few (profile)
+pub record IsPlain (h : Held) : Type 0 where
+  pub uncut : h.cuts ≡ []
+  pub searched : h.steps ≤ search_steps (length h.entries)
+  pub few : h.waiting ≤ 126
+
+-- a snapshot's dead list has what stands before it, these blocks, and it hasn't, each block once; and what it has that these blocks lack is
+-- counted (On-Disk Specification, chapter 4: ds_deadlist_obj; zfsprops(7): written)
 pub record IsAccounted (bs : BlockSet) (k : Kept) : Type 0 where
   pub dead : Lists (map dead_block (arc_value k.dead).entries) (difference bs (blocks k.snapshot.map))
-  pub uncut : (arc_value k.dead).cuts ≡ []
+  pub plain : IsPlain (arc_value k.dead)
   pub written : k.written ≡ size_without (blocks k.snapshot.map) bs
 
 -- so it is with each of these snapshots, of which the first stands above these blocks (On-Disk Specification, chapter 4)
@@ -64,14 +73,14 @@ abbrev pub AreUncut : List Kept → Type 0
 AreUncut [] = Unit {0}
 AreUncut (k ∷ ks) = ((arc_value k.dead).cuts ≡ []) × AreUncut ks
 
--- What a file system keeps, above its origin: the dead lists of its snapshots, and that of its live map, each block once, in one segment
--- (On-Disk Specification, chapter 4: ds_deadlist_obj); and two counts of blocks (zfsprops(7): usedbydataset, usedbysnapshots)
+-- What a file system keeps, above its origin: the dead lists of its snapshots, and that of its live map, each block once (On-Disk
+-- Specification, chapter 4: ds_deadlist_obj); and two counts of blocks (zfsprops(7): usedbydataset, usedbysnapshots)
 pub record IsKeeping (f : Inside) : Type 0 where
   pub accounted : AreAccounted (blocks_below (option_map arc_value f.origin)) (arc_value f.snapshots)
   pub dead :
       Lists (map dead_block (arc_value f.dead).entries)
       (difference (newest_blocks (blocks_below (option_map arc_value f.origin)) (snaps_in (arc_value f.snapshots))) (blocks f.live))
-  pub uncut : (arc_value f.dead).cuts ≡ []
+  pub plain : IsPlain (arc_value f.dead)
   pub counted : IsCounted (map_below (option_map arc_value f.origin)) (snaps_in (arc_value f.snapshots)) f.live f.counts
 
 -- These snapshots stand below a map, and these blocks with this group below them: the newest, or else the blocks below, have none that
@@ -86,8 +95,6 @@ pub record AllowsLive (bs : BlockSet) (base : ℕ) (m : Map) (snaps : List Snap)
   pub asks : AllowsChange m us g (young_after base snaps synced) states
   pub above : IsAbove bs base m snaps
 
--- a dead list has gained those of these entries that were born by a group, behind its own, which may have been sorted (profile)
-pub record HasGained (old new released : List Dead) (newest : ℕ) : Type 0 where
-  pub own : List Dead
-  pub sorted : IsPermutation old own
-  pub gained : new ≡ own ++ filter (is_upto newest) released
+-- a dead list has gained those of these entries that were born by a group, in any order (profile)
+abbrev pub HasGained : List Dead → List Dead → List Dead → ℕ → Type 0
+HasGained old new released newest = IsPermutation (old ++ filter (is_upto newest) released) new

@@ -62,8 +62,8 @@ impl Model for Image {
 }
 
 impl Image {
-    /// An image of `n` blocks, at most `MOST_BLOCKS`, all zero, with no block protected. NoMemory where the room was refused. Its time is
-    /// proportional to a 64th of `n`.
+    /// An image of `n` blocks, at most `MOST_BLOCKS`, all zero, with no block protected. NoMemory where the room was refused. Constant time: it
+    /// reserves the room, and writes nothing to it.
     pub fn new(alloc: Global, n: u32) -> Result<Image, Refusal>
         requires { n ≤ MOST_BLOCKS }
         ensures ok { IfOk result (λ i. i ≡ record { bytes = replicate (512 * n) 0; kept = replicate n Free; keeps = 0 }) }

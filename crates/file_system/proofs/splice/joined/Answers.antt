@@ -1,4 +1,4 @@
-use Rattle.std.proofs.Common.{◌≡◌, ◌++◌, List, [], nat_le, take, ap, sym, subst, ◌∙◌}
+use Rattle.std.proofs.Common.{◌≡◌, ◌++◌, List, [], nat_le, take, ap, sym, subst, ◌∙◌, arith}
 use Rattle.std.specs.Prelude.{filter}
 use Rattle.std.specs.Arc.{arc_value}
 use Rattle.std.specs.List.Sorted.{IsPermutation}
@@ -29,9 +29,10 @@ returns-in-Ok-clause-ok c =
       rest = c.in_ok-lost.ensures.taken ∙ ap (filter (is_after c.group_of.result.0)) c.in_ok-own.ensures.entries ∙ ap (λ n. filter (is_after n) next) base;
     }
 
--- no cut comes of none
-pub returns-in-Ok-clause-uncut : goal.returns-in-Ok-clause-uncut
-returns-in-Ok-clause-uncut c =
+-- no cut comes of none, and the list is in order
+pub returns-in-Ok-clause-plain : goal.returns-in-Ok-clause-plain
+returns-in-Ok-clause-plain c =
     let own : c.take_after.new.self.cuts ≡ [] = c.in_ok-lost.ensures.kept_cuts ∙ ap (filter (λ g. nat_le g c.group_of.result.0)) (c.in_ok-own.ensures.cuts ∙ c.requires.next) in
     let gone : c.in_ok-all.all.cuts ≡ [] = c.in_ok-all.ensures.cuts ∙ ap (λ (h : Held). h.cuts) c.deref.ensures ∙ uncut_at c.args.kept.now c.args.place c.in-Some.gone.now c.requires.uncut (sym c.in-Some.ensures) in
-    c.in-Ok.ensures.cuts ∙ (λ i. with_cuts (gone i) (own i))
+    let few = c.in-Ok.ensures.waiting in
+    record { uncut = c.in-Ok.ensures.cuts ∙ (λ i. with_cuts (gone i) (own i)); searched = c.in-Ok.ensures.steps; few = omega (arith, few) }

@@ -8,7 +8,7 @@ use Rattle.model.specs.World.{Snap}
 use Rattle.model.specs.Sums.{size_without}
 use Rattle.snapshots.specs.declared.kept.Kept.{Kept}
 use Rattle.world.specs.Deadlists.{Lists}
-use Rattle.file_system.specs.Dead.{blocks_kept}
+use Rattle.file_system.specs.Dead.{blocks_kept, IsPlain}
 use Rattle.file_system.specs.Origins.{blocks_below, group_below}
 use Rattle.file_system.specs.Splices.{blocks_before, AreJoined}
 use Rattle.file_system.proofs.Stacks.{are_uncut, uncut_at, some_at, before_blocks, between_dead, between_lost}
@@ -65,7 +65,7 @@ returns-clause-ok c =
       accounted = record {
         dead = subst (λ (h : Held). Lists (map dead_block h.entries) (difference (blocks_before bs ks c.args.place) (blocks c.in_ok-snapshot.snapshot.map))) (sym c.in_ok-dead-2.ensures.ok)
             (subst (λ (t : Snap). Lists (map dead_block c.in_ok-dead.dead.entries) (difference (blocks_before bs ks c.args.place) (blocks t.map))) (sym snap) dead);
-        uncut = ap (λ (h : Held). h.cuts) c.in_ok-dead-2.ensures.ok ∙ c.in_ok-dead.ensures.uncut;
+        plain = subst IsPlain (sym c.in_ok-dead-2.ensures.ok) c.in_ok-dead.ensures.plain;
         written = c.written_over-written.ensures ∙ ap (λ (m : Map). size_without (blocks m) (blocks_kept bs (option_copied c.before-2.result))) c.tree.ensures ∙ ap (size_without (blocks c.in_ok-snapshot.snapshot.map)) before;
       };
       lost_is = between_lost bs (group_below (option_copied c.args.origin)) ks c.args.place c.requires n (sym c.in-Some.ensures) c.deref.result.now.entries c.in_ok-dead.dead.entries c.in_ok-dead.lost.entries is j;

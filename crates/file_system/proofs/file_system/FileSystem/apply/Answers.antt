@@ -76,7 +76,7 @@ invariant_of-self c =
       accounted = c.self.invariant.accounted;
       dead = subst (λ (m : Map). Lists (map dead_block (arc_value c.put.new.dead).entries) (difference below (blocks m))) (sym c.in_err-changed.ensures.err)
           (lists_shuffled dead_block _ _ _ c.in_err-changed.ensures.dead_err c.self.invariant.dead);
-      uncut = c.in_err-changed.ensures.cuts ∙ c.self.invariant.uncut;
+      plain = c.in_err-changed.ensures.plain;
       counted = subst (λ (m : Map). IsCounted (map_below (option_map arc_value c.self.inside.origin)) (snaps_in (arc_value c.self.inside.snapshots)) m c.self.inside.counts) (sym c.in_err-changed.ensures.err) c.self.invariant.counted;
     }
 
@@ -179,7 +179,7 @@ invariant_of-self-2 c =
       accounted = c.self.invariant.accounted;
       dead = dead_changed bs base c.self.inside.live c.put.new.live (changes_of c.args.updates.now) c.args.group.0 c.young_from-young.result.0 c.args.allocator.now (change_done c.self.inside.live c.put.new.live done)
           put c.in_ok-draft.ensures.unique snaps above late early _ _ c.in_ok-draft.draft.released.items gained (ap (map dead_block) c.in_ok-changed.ensures.ok.released) refl c.self.invariant.dead;
-      uncut = c.in_ok-changed.ensures.cuts ∙ c.self.invariant.uncut;
+      plain = c.in_ok-changed.ensures.plain;
       counted = (
           let snaps = snaps_in (arc_value c.self.inside.snapshots) in
           let o = option_map arc_value c.self.inside.origin in

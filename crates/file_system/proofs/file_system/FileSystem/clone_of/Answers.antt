@@ -4,8 +4,9 @@ use Rattle.std.specs.FinSet.{difference}
 use Rattle.base.specs.Map.{Map, blocks}
 use Rattle.deadlist.specs.Held.{Held}
 use Rattle.world.specs.Deadlists.{Lists}
-use Rattle.file_system.specs.Dead.{AreAccounted}
+use Rattle.file_system.specs.Dead.{AreAccounted, IsPlain}
 use Rattle.file_system.proofs.Counted.{fresh_counted}
+use Rattle.file_system.proofs.Plain.{fresh_plain}
 use Rattle.file_system.proofs.Accounts.{fresh_dead, nothing_dead}
 use Rattle.file_system.proofs.file_system.FileSystem.clone_of.Goals as goal
 
@@ -19,6 +20,6 @@ invariant_of-result c =
       accounted = subst (AreAccounted (blocks below)) (sym none) tt;
       dead = fresh_dead (blocks below) _ _ (blocks c.in_ok-live.live) (ap (λ (h : Held). h.entries) c.in_ok-dead.ensures.ok ∙ c.new.ensures.entries) none
           (subst (λ (m : Map). Lists [] (difference (blocks m) (blocks c.in_ok-live.live))) (sym same) (nothing_dead (blocks c.in_ok-live.live)));
-      uncut = ap (λ (h : Held). h.cuts) c.in_ok-dead.ensures.ok ∙ c.new.ensures.cuts;
+      plain = subst IsPlain (sym c.in_ok-dead.ensures.ok) (fresh_plain c.new.result c.new.ensures.cuts c.new.ensures.waiting c.new.ensures.steps);
       counted = fresh_counted below _ c.in_ok-live.live _ none same c.no_counts.ensures.by_dataset c.no_counts.ensures.by_snapshots;
     }

@@ -9,7 +9,7 @@ use Rattle.snapshots.specs.declared.kept.Kept.{Kept}
 use Rattle.world.specs.Deadlists.{Lists}
 use Rattle.file_system.specs.Counts.{IsCounted}
 use Rattle.file_system.specs.declared.origin.Origin.{Origin}
-use Rattle.file_system.specs.Dead.{snaps_in, newest_blocks, AreAccounted}
+use Rattle.file_system.specs.Dead.{snaps_in, newest_blocks, AreAccounted, IsPlain}
 use Rattle.file_system.specs.Origins.{origin_id, map_below, blocks_below}
 use Rattle.file_system.specs.Rows.{system_of}
 use Rattle.file_system.proofs.file_system.FileSystem.copy.Goals as goal
@@ -28,7 +28,7 @@ invariant_of-result c =
           (subst (λ (m : Map). Lists (map dead_block es) (difference (newest_blocks was (snaps_in ks)) (blocks m))) (sym live)
           (subst (λ (h : Held). Lists (map dead_block h.entries) (difference (newest_blocks was (snaps_in ks)) (blocks c.self.inside.live))) (sym c.in_ok-dead.ensures)
           (subst (λ (l : List Kept). Lists (map dead_block (arc_value c.self.inside.dead).entries) (difference (newest_blocks was (snaps_in l)) (blocks c.self.inside.live))) (sym c.in_ok-snapshots.ensures) c.self.invariant.dead)));
-      uncut = ap (λ (h : Held). h.cuts) c.in_ok-dead.ensures ∙ c.self.invariant.uncut;
+      plain = subst IsPlain (sym c.in_ok-dead.ensures) c.self.invariant.plain;
       counted = subst (λ (p : Option Origin). IsCounted (map_below p) (snaps_in ks) c.in_ok-live.live c.self.inside.counts) (sym c.in_ok-origin.ensures.ok)
           (subst (λ (l : List Kept). IsCounted (map_below (option_map arc_value c.self.inside.origin)) (snaps_in l) c.in_ok-live.live c.self.inside.counts) (sym c.in_ok-snapshots.ensures)
           (subst (λ (m : Map). IsCounted (map_below (option_map arc_value c.self.inside.origin)) (snaps_in (arc_value c.self.inside.snapshots)) m c.self.inside.counts) (sym live) c.self.invariant.counted));

@@ -45,7 +45,7 @@ invariant_of-self c =
     record {
       accounted = subst (AreAccounted bs) same c.self.invariant.accounted;
       dead = subst (λ l. Lists (map dead_block (arc_value c.self.inside.dead).entries) (difference (newest_blocks bs (snaps_in l)) (blocks c.self.inside.live))) same c.self.invariant.dead;
-      uncut = c.self.invariant.uncut;
+      plain = c.self.invariant.plain;
       counted = subst (λ l. IsCounted (map_below (option_map arc_value c.self.inside.origin)) (snaps_in l) c.self.inside.live c.self.inside.counts) same c.self.invariant.counted;
     }
 
@@ -63,7 +63,7 @@ invariant_of-self-2 c =
       accounted = subst (AreAccounted bs) (sym changed) (edited_accounted (edit_of c.args.edit) (same_map_of c.args.edit) bs ks i c.in_ok-next.next is c.self.invariant.accounted);
       dead = subst (λ s. Lists (map dead_block (arc_value c.self.inside.dead).entries) (difference s (blocks live)))
           (sym (ap (λ l. newest_blocks bs (snaps_in l)) changed ∙ edited_newest (edit_of c.args.edit) (same_map_of c.args.edit) bs ks i c.in_ok-next.next is)) c.self.invariant.dead;
-      uncut = c.self.invariant.uncut;
+      plain = c.self.invariant.plain;
       counted = subst (λ l. IsCounted (map_below (option_map arc_value c.self.inside.origin)) (snaps_in l) live c.self.inside.counts) (sym changed)
           (same_counted (map_below (option_map arc_value c.self.inside.origin)) (snaps_in ks) (snaps_in (set ks i c.in_ok-next.next)) live c.self.inside.counts
           (edited_maps (edit_of c.args.edit) (same_map_of c.args.edit) ks i c.in_ok-next.next is) c.self.invariant.counted);

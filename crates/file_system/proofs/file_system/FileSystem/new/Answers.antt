@@ -5,9 +5,10 @@ use Rattle.base.specs.Map.{BlockSet, blocks}
 use Rattle.deadlist.specs.Held.{Held}
 use Rattle.world.specs.Deadlists.{Lists}
 use Rattle.world.proofs.lineage.Bridge.{blocks_none}
-use Rattle.file_system.specs.Dead.{snaps_in, AreAccounted}
+use Rattle.file_system.specs.Dead.{snaps_in, AreAccounted, IsPlain}
 use Rattle.file_system.specs.Rows.{system_of}
 use Rattle.file_system.proofs.Counted.{fresh_counted}
+use Rattle.file_system.proofs.Plain.{fresh_plain}
 use Rattle.file_system.proofs.Accounts.{fresh_dead, nothing_before}
 use Rattle.file_system.proofs.file_system.FileSystem.new.Goals as goal
 
@@ -19,7 +20,7 @@ invariant_of-result c =
       accounted = subst (AreAccounted (blocks finmap.empty)) (sym bare) tt;
       dead = fresh_dead (blocks finmap.empty) _ _ (blocks c.new-5.result) (ap (λ (h : Held). h.entries) c.in_ok-dead.ensures.ok ∙ c.new.ensures.entries) bare
           (subst (λ (s : BlockSet). Lists [] (difference s (blocks c.new-5.result))) (sym blocks_none) (nothing_before (blocks c.new-5.result)));
-      uncut = ap (λ (h : Held). h.cuts) c.in_ok-dead.ensures.ok ∙ c.new.ensures.cuts;
+      plain = subst IsPlain (sym c.in_ok-dead.ensures.ok) (fresh_plain c.new.result c.new.ensures.cuts c.new.ensures.waiting c.new.ensures.steps);
       counted = fresh_counted finmap.empty _ c.new-5.result _ bare (sym c.new-5.ensures) c.no_counts.ensures.by_dataset c.no_counts.ensures.by_snapshots;
     }
 

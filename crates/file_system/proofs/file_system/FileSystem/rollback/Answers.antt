@@ -10,10 +10,11 @@ use Rattle.deadlist.specs.Held.{Held}
 use Rattle.snapshots.specs.declared.kept.Kept.{Kept}
 use Rattle.world.specs.Deadlists.{Lists}
 use Rattle.file_system.specs.Counts.{AreLined, IsCounted}
-use Rattle.file_system.specs.Dead.{snaps_in, newest_blocks, AreAccounted}
+use Rattle.file_system.specs.Dead.{snaps_in, newest_blocks, AreAccounted, IsPlain}
 use Rattle.file_system.specs.Origins.{origin_id, origin_group, map_below, blocks_below, group_below}
 use Rattle.file_system.specs.Losses.{newest_map}
 use Rattle.file_system.specs.Rows.{Row, system_of, with_system}
+use Rattle.file_system.proofs.Plain.{fresh_plain}
 use Rattle.file_system.proofs.Accounts.{newest_blocks_are, nothing_dead}
 use Rattle.file_system.proofs.Lines.{line_above, line_back}
 use Rattle.file_system.proofs.Losses.{newest_map_is}
@@ -99,7 +100,7 @@ invariant_of-self c =
     record {
       accounted = c.self.invariant.accounted;
       dead = dead;
-      uncut = ap (λ (h : Held). h.cuts) c.in_ok-dead.ensures.ok ∙ c.new.ensures.cuts;
+      plain = subst IsPlain (sym c.in_ok-dead.ensures.ok) (fresh_plain c.new.result c.new.ensures.cuts c.new.ensures.waiting c.new.ensures.steps);
       counted = subst (λ p. IsCounted (map_below p) (snaps_in ks) c.in_ok-live.live c.in_ok-counts.counts) origin
           (subst (λ l. IsCounted (map_below (option_copied c.origin_in-origin.result)) (snaps_in l) c.in_ok-live.live c.in_ok-counts.counts) kept c.in_ok-counts.ensures.ok);
     }

@@ -12,7 +12,7 @@ use Rattle.snapshots.specs.Index.{AreNamesOnce}
 use Rattle.world.specs.Deadlists.{Lists}
 use Rattle.world.specs.Worlds.{AreRising}
 use Rattle.file_system.specs.Counts.{AreLined, IsCounted}
-use Rattle.file_system.specs.Dead.{snaps_in, newest_blocks, AreAccounted, AreUncut, IsAbove}
+use Rattle.file_system.specs.Dead.{snaps_in, newest_blocks, AreAccounted, AreUncut, IsAbove, IsPlain}
 use Rattle.file_system.specs.Origins.{origin_id, origin_group, map_below, blocks_below, group_below}
 use Rattle.file_system.specs.Rows.{Row, system_of, with_system}
 use Rattle.file_system.specs.Splices.{lost_from, without_group, AreStacked, AreJoined, IsNext}
@@ -39,7 +39,7 @@ joined-requires-clause-uncut c =
     subst AreUncut (sym kept) (are_uncut (blocks_below (option_map arc_value c.self.inside.origin)) (arc_value c.self.inside.snapshots) c.self.invariant.accounted)
 
 pub joined-requires-clause-next : goal.joined-requires-clause-next
-joined-requires-clause-next c = ap (λ (h : Held). h.cuts) c.deref-2.ensures ∙ c.self.invariant.uncut
+joined-requires-clause-next c = ap (λ (h : Held). h.cuts) c.deref-2.ensures ∙ c.self.invariant.plain.uncut
 
 pub remove-requires-clause-there : goal.remove-requires-clause-there
 remove-requires-clause-there c =
@@ -75,7 +75,7 @@ invariant_of-self-then-place-count c =
       accounted = subst (AreAccounted bs) (sym spliced) (next_accounted bs base ks i g live next lost is rising at c.self.invariant.accounted);
       dead = subst (λ l. Lists (map dead_block (arc_value c.self.inside.dead).entries) (difference (newest_blocks bs (snaps_in l)) (blocks live))) (sym spliced)
           (next_dead bs base ks i g live next lost is rising at (arc_value c.self.inside.dead).entries c.self.invariant.dead);
-      uncut = c.self.invariant.uncut;
+      plain = c.self.invariant.plain;
       counted = subst (λ l. IsCounted (map_below o) l live (record c.self.inside.counts { by_snapshots = c.self.inside.counts.by_snapshots - c.len.result })) (sym snaps)
           (record { by_dataset = c.self.invariant.counted.by_dataset; by_snapshots = omega (arith, c.len.ensures) });
     }
@@ -183,7 +183,7 @@ invariant_of-self-2 c =
       dead = subst (λ (h : Held). Lists (map dead_block h.entries) (difference (newest_blocks bs (snaps_in (arc_value (c.own-2.follows.lender c.remove.new.self)))) (blocks live))) (sym c.in_ok-dead-2.ensures.ok)
           (subst (λ l. Lists (map dead_block new) (difference (newest_blocks bs (snaps_in l)) (blocks live))) (sym removed)
           (last_dead bs base ks i g live old new lost j c.self.invariant.accounted c.self.invariant.dead rising each above at last));
-      uncut = ap (λ (h : Held). h.cuts) c.in_ok-dead-2.ensures.ok ∙ c.in_ok-dead.ensures.uncut;
+      plain = subst IsPlain (sym c.in_ok-dead-2.ensures.ok) c.in_ok-dead.ensures.plain;
       counted = subst (λ l. IsCounted (map_below o) l live (record c.self.inside.counts { by_snapshots = c.self.inside.counts.by_snapshots - c.len-2.result })) (sym snaps)
           (record { by_dataset = c.self.invariant.counted.by_dataset; by_snapshots = omega (arith, c.len-2.ensures) });
     }

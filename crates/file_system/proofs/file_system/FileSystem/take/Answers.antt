@@ -12,10 +12,11 @@ use Rattle.snapshots.specs.Snaps.{plain_snap}
 use Rattle.snapshots.specs.declared.kept.Kept.{Kept}
 use Rattle.world.specs.Deadlists.{Lists}
 use Rattle.file_system.specs.Counts.{IsCounted}
-use Rattle.file_system.specs.Dead.{snaps_in, newest_blocks}
+use Rattle.file_system.specs.Dead.{snaps_in, newest_blocks, IsPlain}
 use Rattle.file_system.specs.Origins.{origin_id, map_below, blocks_below}
 use Rattle.file_system.specs.Rows.{Row, system_of, with_system, with_snap}
 use Rattle.file_system.proofs.Counted.{taken_counted}
+use Rattle.file_system.proofs.Plain.{fresh_plain}
 use Rattle.file_system.proofs.Accounts.{snaps_more, taken_accounted, taken_dead}
 use Rattle.file_system.proofs.file_system.FileSystem.take.Goals as goal
 
@@ -31,11 +32,11 @@ invariant_of-self-2 c =
     let written : k.written ≡ size_without (blocks live) (newest_blocks bs (snaps_in ks)) = c.written-written.ensures ∙ ap (λ (r : Row). size_without (blocks r.system.live) (newest_blocks (blocks r.below) r.system.snaps)) (sym c.self.view_is) in
     let bare = ap (λ (h : Held). h.entries) c.in_ok-fresh.ensures.ok ∙ c.new.ensures.entries in
     let pushed : arc_value (c.own.follows.lender c.push.new.self) ≡ ks ++ k ∷ [] = c.own.follows.holds c.push.new.self (ap is_ok c.in_ok-own.was) ∙ c.in_ok-push.ensures.ok ∙ ap (λ l. l ++ k ∷ []) c.in_ok-own.ensures.value in
-    let kept_uncut : (arc_value k.dead).cuts ≡ [] = ap (λ (h : Held). h.cuts) c.in_ok-dead.ensures ∙ c.self.invariant.uncut in
+    let plain : IsPlain (arc_value k.dead) = subst IsPlain (sym c.in_ok-dead.ensures) c.self.invariant.plain in
     record {
-      accounted = taken_accounted bs ks _ k live _ c.self.invariant.accounted own map_is written pushed bare kept_uncut;
-      dead = taken_dead bs ks _ k live _ c.self.invariant.accounted own map_is written pushed bare kept_uncut;
-      uncut = ap (λ (h : Held). h.cuts) c.in_ok-fresh.ensures.ok ∙ c.new.ensures.cuts;
+      accounted = taken_accounted bs ks _ k live _ c.self.invariant.accounted own map_is written pushed bare plain;
+      dead = taken_dead bs ks _ k live _ c.self.invariant.accounted own map_is written pushed bare plain;
+      plain = subst IsPlain (sym c.in_ok-fresh.ensures.ok) (fresh_plain c.new.result c.new.ensures.cuts c.new.ensures.waiting c.new.ensures.steps);
       counted = subst (λ l. IsCounted (map_below (option_map arc_value c.self.inside.origin)) l live c.self.inside.counts) (sym (ap snaps_in pushed ∙ snaps_more ks k))
           (taken_counted (map_below (option_map arc_value c.self.inside.origin)) (snaps_in ks) k.snapshot live c.self.inside.counts map_is c.self.invariant.counted);
     }
