@@ -283,7 +283,9 @@ class DeadList:
 
 
 class DeadLists:
-    """Dead lists. A call tells how many segments it reaches: for a push that is none or all, and it tells that it is one of these."""
+    """Dead lists. A call tells how many segments it reaches: for a push that is none or all, and it tells that it is one of these. A sum also
+    counts entries that it looks at, none of them twice, and no rule says how many: it tells its segments where its count is theirs at least and
+    no more than one higher for each entry."""
 
     def __init__(self):
         self.at = [DeadList() for _ in range(4)]

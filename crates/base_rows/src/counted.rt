@@ -1,8 +1,9 @@
 //! Rows on readers and writers whose failures are counted.
 use crate::broken::{behind_a_borrow, behind_a_reader, behind_a_writer, failures_of_five};
-use crate::row::numbers;
 use base::failing::{Counted, Failing};
 use base::refusal::Refusal;
+use row_machine::told::Told;
+use row_machine::words::Words;
 use std::alloc::Global;
 use std::io;
 use std::io::{BufRead, ErrorKind, Read, Write};
@@ -27,29 +28,28 @@ impl BufRead for Ended {
 }
 
 /// How many bytes a reader at its end gives, and how often it was asked for them.
-fn at_the_end(alloc: Global) -> Result<String, Refusal> {
+fn at_the_end() -> Told {
     let mut ended = Counted::new(Ended(0));
     let given = match ended.fill_buf() {
         Ok(bytes) => bytes.len(),
         Err(_) => 1,
     };
-    numbers(alloc, given as u64, u64::from(ended.inner.0))
+    Told::Two(given as u64, u64::from(ended.inner.0))
 }
 
 /// How many bytes go through a counted writer, whether they are the ones that were written, and its failures.
-fn writer(alloc: Global) -> Result<String, Refusal> {
+fn writer(alloc: Global) -> Result<Told, Refusal> {
     let mut writer = Counted::new(Vec::new(alloc));
     if writer.write(b"ab").is_err() || writer.write_all(b"cd").is_err() {
         return Err(Refusal::NoMemory);
     }
     let _flushed = writer.flush().is_err();
     let is_same = u64::from(writer.inner.as_slice() == b"abcd".as_slice());
-    let (len, failures) = (writer.inner.len(), writer.failures());
-    Ok(format!(in alloc; "{len} {is_same} {failures}")?)
+    Ok(Told::Three(writer.inner.len() as u64, is_same, writer.failures()))
 }
 
 /// How many bytes a reader of three has, how many it gives after one is consumed, and its failures.
-fn reader(alloc: Global, mut reader: Counted<&[u8]>) -> Result<String, Refusal> {
+fn reader(mut reader: Counted<&[u8]>) -> Told {
     let mut buffer = [0u8; 4];
     let filled = match reader.fill_buf() {
         Ok(bytes) => bytes.len(),
@@ -57,30 +57,25 @@ fn reader(alloc: Global, mut reader: Counted<&[u8]>) -> Result<String, Refusal> 
     };
     reader.consume(1);
     let read = reader.read(&mut buffer).unwrap_or(0);
-    let failures = reader.failures();
-    Ok(format!(in alloc; "{filled} {read} {failures}")?)
-}
-
-fn number(alloc: Global, number: u64) -> Result<String, Refusal> {
-    Ok(format!(in alloc; "{number}")?)
+    Told::Three(filled as u64, read as u64, reader.failures())
 }
 
 /// How many of five calls fail, and how many of them are counted.
-fn five(alloc: Global, kind: ErrorKind) -> Result<String, Refusal> {
+fn five(kind: ErrorKind) -> Told {
     let (failed, counted) = failures_of_five(kind);
-    numbers(alloc, failed, counted)
+    Told::Two(failed, counted)
 }
 
 /// What a row on what is counted tells.
-pub fn told(alloc: Global, call: &str) -> Result<String, Refusal> {
-    match call {
-        "device" => five(alloc, ErrorKind::BrokenPipe),
-        "memory" => five(alloc, ErrorKind::OutOfMemory),
-        "borrow" => number(alloc, behind_a_borrow()),
-        "buffered" => number(alloc, behind_a_reader(alloc)?),
-        "written" => number(alloc, behind_a_writer(alloc)?),
-        "end" => at_the_end(alloc),
+pub fn told(alloc: Global, words: &mut Words) -> Result<Told, Refusal> {
+    match words.word() {
+        "device" => Ok(five(ErrorKind::BrokenPipe)),
+        "memory" => Ok(five(ErrorKind::OutOfMemory)),
+        "borrow" => Ok(Told::One(behind_a_borrow())),
+        "buffered" => Ok(Told::One(behind_a_reader(alloc)?)),
+        "written" => Ok(Told::One(behind_a_writer(alloc)?)),
+        "end" => Ok(at_the_end()),
         "writer" => writer(alloc),
-        _ => reader(alloc, Counted::new(b"abc".as_slice())),
+        _ => Ok(reader(Counted::new(b"abc".as_slice()))),
     }
 }

@@ -1,7 +1,8 @@
 //! Rows on names.
-use crate::row::{Row, yes_or_no};
 use base::name::{Component, DsName, MarkName, Member, SnapName, Tag, Target};
 use base::refusal::Refusal;
+use row_machine::told::Told;
+use row_machine::words::Words;
 use std::alloc::Global;
 
 fn has_parts(member: &Member, parts: (&[u8], &[u8])) -> bool {
@@ -98,29 +99,24 @@ fn made_bookmark(alloc: Global, system: &[u8], component: &[u8]) -> Result<bool,
     Ok(has_parts(made.member(), (system, component)))
 }
 
-/// Whether a name with a blank is read as a file system's.
-fn read_blank(alloc: Global, one: &str, other: &str) -> Result<bool, Refusal> {
-    let name = format!(in alloc; "{one} {other}")?;
-    read(alloc, "system", name.as_bytes(), (b"", b""))
-}
-
 /// Whether that is so, of `read KIND NAME [SYSTEM COMPONENT]`, `blank NAME NAME`, `same KIND NAME NAME`, `snapshot SYSTEM COMPONENT` or
-/// `bookmark SYSTEM COMPONENT`.
-fn is_so(alloc: Global, row: Row) -> Result<bool, Refusal> {
-    let (one, other) = (row.first.as_bytes(), row.second.as_bytes());
-    match row.call {
-        "read" => {
-            let parts = (row.third.as_bytes(), row.fourth.as_bytes());
-            read(alloc, row.first, other, parts)
-        }
-        "same" => same(alloc, row.first, other, row.third.as_bytes()),
-        "snapshot" => made_snapshot(alloc, one, other),
-        "bookmark" => made_bookmark(alloc, one, other),
-        _ => read_blank(alloc, row.first, row.second),
+/// `bookmark SYSTEM COMPONENT`. Of `blank`, it is whether a name with a blank is read as a file system's.
+fn is_so(alloc: Global, words: &mut Words) -> Result<bool, Refusal> {
+    let call = words.word();
+    if call == "blank" {
+        return read_word(alloc, "system", words.rest.as_bytes());
+    }
+    let (one, other) = (words.word(), words.word().as_bytes());
+    let (third, fourth) = (words.word().as_bytes(), words.word().as_bytes());
+    match call {
+        "read" => read(alloc, one, other, (third, fourth)),
+        "same" => same(alloc, one, other, third),
+        "snapshot" => made_snapshot(alloc, one.as_bytes(), other),
+        _ => made_bookmark(alloc, one.as_bytes(), other),
     }
 }
 
 /// What a row on names tells.
-pub fn told(alloc: Global, row: Row) -> Result<String, Refusal> {
-    yes_or_no(alloc, is_so(alloc, row)?)
+pub fn told(alloc: Global, words: &mut Words) -> Result<Told, Refusal> {
+    Ok(Told::Is(is_so(alloc, words)?))
 }

@@ -1,11 +1,12 @@
 //! Rows on refusals, limits, meters, bytes and blocks.
-use crate::row::{Row, number_of, numbers, yes_or_no};
 use base::data::Data;
 use base::laws::{order_laws, rewrite_laws};
 use base::limit::Blocks;
 use base::meter::{Meter, SegMeter};
 use base::refusal::Refusal;
 use base::text::{Bytes, compare_bytes, same_bytes};
+use row_machine::told::Told;
+use row_machine::words::Words;
 use std::alloc::{AllocError, Global};
 use std::cmp::Ordering;
 use toll::Toll;
@@ -51,13 +52,11 @@ fn refusal_at(place: u64) -> Option<Refusal> {
 }
 
 /// The refusal at a place, where its number and its name are these.
-fn refused(alloc: Global, place: u64, name: &str) -> Result<String, Refusal> {
+fn refused(place: u64, name: &str) -> Told {
     match refusal_at(place) {
-        Some(refusal) if u64::from(refusal.number()) == place && refusal.name() == name => Err(
-            refusal,
-        ),
-        Some(_) => yes_or_no(alloc, false),
-        None => Ok(String::from_str(alloc, "none")?),
+        Some(it) if u64::from(it.number()) == place && it.name() == name => Told::Refused(it),
+        Some(_) => Told::Is(false),
+        None => Told::Absent,
     }
 }
 
@@ -69,25 +68,20 @@ fn are_same(one: u64, other: u64) -> bool {
     }
 }
 
-fn limit(alloc: Global, count: u64) -> Result<String, Refusal> {
-    let blocks = Blocks::new(count)?.get();
-    Ok(format!(in alloc; "{blocks}")?)
-}
-
 /// What meters of nodes and of segments have counted after one step.
-fn meters(alloc: Global) -> Result<String, Refusal> {
+fn meters() -> Told {
     let mut nodes = Meter::new(Toll::new());
     nodes.add_one();
     let mut segments = SegMeter::new(Toll::new());
     segments.add_one();
-    numbers(alloc, nodes.count(), segments.count())
+    Told::Two(nodes.count(), segments.count())
 }
 
 /// A growth of a list, by `?`.
-fn grown(alloc: Global) -> Result<String, Refusal> {
+fn grown(alloc: Global) -> Result<Told, Refusal> {
     let mut bytes = Vec::new(alloc);
     bytes.push(1u8)?;
-    Ok(String::from_str(alloc, "ok")?)
+    Ok(Told::Done)
 }
 
 fn bytes_of(alloc: Global, items: &[u8]) -> Result<Bytes, Refusal> {
@@ -95,63 +89,65 @@ fn bytes_of(alloc: Global, items: &[u8]) -> Result<Bytes, Refusal> {
 }
 
 /// Whether bytes of their own are as they were given, the same as others, and equal to them.
-fn bytes(alloc: Global, one: &[u8], other: &[u8]) -> Result<String, Refusal> {
+fn bytes(alloc: Global, one: &[u8], other: &[u8]) -> Result<Told, Refusal> {
     let (ours, others) = (bytes_of(alloc, one)?, bytes_of(alloc, other)?);
     let is_given = u64::from(ours.as_slice() == one);
     let (is_same, is_equal) = (u64::from(ours.same(&others)), u64::from(ours == others));
-    Ok(format!(in alloc; "{is_given} {is_same} {is_equal}")?)
+    Ok(Told::Three(is_given, is_same, is_equal))
 }
 
 /// Whether bytes are the same where they stand, and 1, 2 or 3 where the first come before the others, are they, or come after.
-fn compared(alloc: Global, one: &[u8], other: &[u8]) -> Result<String, Refusal> {
+fn compared(one: &[u8], other: &[u8]) -> Told {
     let order = match compare_bytes(one, other) {
         Ordering::Less => 1,
         Ordering::Equal => 2,
         Ordering::Greater => 3,
     };
-    numbers(alloc, u64::from(same_bytes(one, other)), order)
+    Told::Two(u64::from(same_bytes(one, other)), order)
 }
 
 /// Whether a block filled with a byte has just those bytes, and is the same as one filled with the other.
-fn blocks(alloc: Global, one: u8, other: u8) -> Result<String, Refusal> {
+fn blocks(alloc: Global, one: u8, other: u8) -> Result<Told, Refusal> {
     let (ours, others) = (
         Data::new(alloc, &[one; 512])?,
         Data::new(alloc, &[other; 512])?,
     );
     let is_given = *ours.as_array() == [one; 512];
-    numbers(alloc, u64::from(is_given), u64::from(ours.same(&others)))
+    Ok(Told::Two(u64::from(is_given), u64::from(ours.same(&others))))
 }
 
 /// The laws of orders and of rewriting, which are called once.
-fn laws(alloc: Global) -> Result<String, Refusal> {
+fn laws() -> Told {
     order_laws();
     rewrite_laws();
-    Ok(String::from_str(alloc, "ok")?)
+    Told::Done
 }
 
 /// What a row on bytes tells.
-fn told_of_bytes(alloc: Global, row: Row) -> Result<String, Refusal> {
-    let (one, other) = (row.first.as_bytes(), row.second.as_bytes());
-    match row.call {
-        "bytes" => bytes(alloc, one, other),
-        "compared" => compared(alloc, one, other),
-        _ => {
-            let (one, other) = (number_of(row.first), number_of(row.second));
-            blocks(alloc, (one & 255) as u8, (other & 255) as u8)
-        }
+fn told_of_bytes(alloc: Global, call: &str, words: &mut Words) -> Result<Told, Refusal> {
+    if call == "blocks" {
+        let (one, other) = (words.long(), words.long());
+        return blocks(alloc, (one & 255) as u8, (other & 255) as u8);
+    }
+    let (one, other) = (words.word().as_bytes(), words.word().as_bytes());
+    if call == "bytes" {
+        bytes(alloc, one, other)
+    } else {
+        Ok(compared(one, other))
     }
 }
 
 /// What a row on values tells.
-pub fn told(alloc: Global, row: Row) -> Result<String, Refusal> {
-    match row.call {
-        "refusal" => refused(alloc, number_of(row.first), row.second),
-        "same" => yes_or_no(alloc, are_same(number_of(row.first), number_of(row.second))),
+pub fn told(alloc: Global, words: &mut Words) -> Result<Told, Refusal> {
+    let call = words.word();
+    match call {
+        "refusal" => Ok(refused(words.long(), words.word())),
+        "same" => Ok(Told::Is(are_same(words.long(), words.long()))),
         "memory" => Err(Refusal::from(AllocError)),
         "grown" => grown(alloc),
-        "limit" => limit(alloc, number_of(row.first)),
-        "meters" => meters(alloc),
-        "laws" => laws(alloc),
-        _ => told_of_bytes(alloc, row),
+        "limit" => Ok(Told::One(Blocks::new(words.long())?.get())),
+        "meters" => Ok(meters()),
+        "laws" => Ok(laws()),
+        _ => told_of_bytes(alloc, call, words),
     }
 }

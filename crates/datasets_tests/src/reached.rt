@@ -1,4 +1,4 @@
-//! How many segments of dead lists a question on space reads.
+//! How much a question on space adds to the count of segments of dead lists.
 use crate::history::with_history;
 use base::meter::SegMeter;
 use base::name::{SnapName, Target};
@@ -8,7 +8,7 @@ use lookups::space::written_since;
 use std::alloc::Global;
 use toll::Toll;
 
-/// How many segments are read to tell what a dataset has written since a snapshot.
+/// How much the count of segments rises, to tell what a dataset has written since a snapshot.
 fn reached(alloc: Global, table: &Table, target: &[u8], since: &[u8]) -> Result<u64, Refusal> {
     let target = Target::read(alloc, target)?;
     let since = SnapName::read(alloc, since)?;
@@ -17,8 +17,8 @@ fn reached(alloc: Global, table: &Table, target: &[u8], since: &[u8]) -> Result<
     Ok(segments.count())
 }
 
-/// Whether each dead list between is read once, of which none is cut: those of `t`, `u` and the live map of `p/a`; that of `u` alone; and
-/// those of `t`, of `v` and of the live map of `p/c`, which is a clone of `t`.
+/// Whether each dead list between is read once: those of `t`, `u` and the live map of `p/a`; that of `u` alone; and those of `t`, of `v` and of
+/// the live map of `p/c`, which is a clone of `t`. No list is cut, so each counts as one segment. None has an entry, so there is none to look at.
 fn reads_each_list_once(alloc: Global) -> Result<bool, Refusal> {
     let table = with_history(alloc)?;
     Ok(

@@ -8,6 +8,7 @@ use Rattle.std.specs.FinSet.{empty, difference, from_list}
 use Rattle.std.specs.FinSet as set
 use Rattle.std.specs.FinMap as finmap
 use Rattle.std.specs.Arc.{arc_value}
+use Rattle.std.specs.List.Sorted.{IsPermutation}
 use Rattle.std.proofs.lemmas.List.Sorted.{IsPermutation-refl}
 use Rattle.std.proofs.lemmas.List.{append-nil}
 use Rattle.base.specs.Map.{Map, BlockSet, blocks}

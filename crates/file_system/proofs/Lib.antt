@@ -13,4 +13,5 @@ pub mod Sizes
 pub mod Recounts
 pub mod Counted
 pub mod Alones
+pub mod Plain
 pub mod Segments

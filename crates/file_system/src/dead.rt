@@ -5,7 +5,7 @@ ghost use Rattle.std.specs.List.Sorted.{IsPermutation};
 ghost use Rattle.base.specs.declared.refusal.Refusal.{Refusal};
 ghost use Rattle.deadlist.specs.Entries.{is_upto};
 ghost use Rattle.tree.specs.Drafting.{CanPut, HasPut};
-ghost use Rattle.file_system.specs.Dead.{HasGained};
+ghost use Rattle.file_system.specs.Dead.{HasGained, IsPlain};
 
 use base::meter::{Meter, SegMeter};
 use base::number::{Dead, Group};
@@ -14,6 +14,9 @@ use deadlist::deadlist::Deadlist;
 use std::alloc::Global;
 use std::sync::Arc;
 use tree::{Changed, Draft, Tree, Update};
+
+/// Fewer blocks than these go onto a dead list in place.
+const FEW: usize = 64;
 
 /// The number of entries that were born no later than the group. It costs their number.
 pub fn count_upto(entries: &[Dead], newest: Group) -> usize
@@ -26,10 +29,10 @@ pub fn count_upto(entries: &[Dead], newest: Group) -> usize
 }
 
 /// Applies a draft of a batch of changes to a live tree. The dropped blocks that were born no later than the group of the newest snapshot go
-/// onto the dead list. The list is changed in place where it has no other owner; else a longer copy takes its place. NoMemory where there is
-/// none for the nodes or the list; then the tree is as it was, and so is the list except for the order of its entries. It costs what `Tree::put`
-/// does, whose nodes the meter counts, and the number of dropped blocks. Where a block goes onto the list, it sometimes costs the list's
-/// segments too.
+/// onto the dead list. The list is changed in place where it has no other owner and fewer than 64 blocks go onto it; else a longer copy, of which
+/// few entries wait, takes its place. NoMemory where there is none for the nodes or the list; then the tree is as it was, and so is the list
+/// except for the order of its entries. It costs what `Tree::put` does, whose nodes the meter counts, and the number of dropped blocks. Where a
+/// block goes onto the list, it sometimes costs the list's segments too.
 pub fn put(
     dead: &mut Arc<Deadlist>,
     live: &mut Tree,
@@ -41,10 +44,11 @@ pub fn put(
     meter: &mut Meter,
     segments: &mut SegMeter,
 ) -> Result<Changed, Refusal>
-    requires { CanPut live.old updates.now group.0 draft }
+    requires can { CanPut live.old updates.now group.0 draft }
+    requires plain { IsPlain (arc_value dead.old) }
     ensures ok { IfOk result (HasPut live.old live.new updates.now group.0 draft) }
     ensures dead { OnOk result (HasGained (arc_value dead.old).entries (arc_value dead.new).entries draft.released.items newest.0) }
-    ensures cuts { (arc_value dead.new).cuts ≡ (arc_value dead.old).cuts }
+    ensures plain { IsPlain (arc_value dead.new) }
     ensures err { OnErr result (live.new ≡ live.old) }
     ensures dead_err { OnErr result (IsPermutation (arc_value dead.old).entries (arc_value dead.new).entries) }
     ensures only { OnErr result (result ≡ Err Refusal.NoMemory) }
@@ -60,13 +64,14 @@ pub fn put(
             list, live, alloc, updates, group, draft, newest, meter, segments,
         );
     }
-    let longer = longer(dead, alloc, &draft.released, newest, segments)?;
+    let longer = longer(dead, &draft.released, newest, segments)?;
+    let longer = Arc::new(alloc, longer)?;
     let changed = live.put(alloc, updates, group, draft, meter)?;
     *dead = longer;
     Ok(changed)
 }
 
-/// Does what `put` does, with a dead list that has no other owner. It first reserves room in the list.
+// Does what `put` does, with a dead list that has no other owner.
 fn put_onto(
     list: &mut Deadlist,
     live: &mut Tree,
@@ -78,10 +83,11 @@ fn put_onto(
     meter: &mut Meter,
     segments: &mut SegMeter,
 ) -> Result<Changed, Refusal>
-    requires { CanPut live.old updates.now group.0 draft }
+    requires can { CanPut live.old updates.now group.0 draft }
+    requires plain { IsPlain list.old }
     ensures ok { IfOk result (HasPut live.old live.new updates.now group.0 draft) }
     ensures dead { OnOk result (HasGained list.old.entries list.new.entries draft.released.items newest.0) }
-    ensures cuts { list.new.cuts ≡ list.old.cuts }
+    ensures plain { IsPlain list.new }
     ensures err { OnErr result (live.new ≡ live.old) }
     ensures dead_err { OnErr result (IsPermutation list.old.entries list.new.entries) }
     ensures only { OnErr result (result ≡ Err Refusal.NoMemory) }
@@ -89,27 +95,34 @@ fn put_onto(
     ensures segments_never_lower { segments.old ≤ segments.new }
 {
     let few = count_upto(&draft.released, newest);
+    if few >= FEW {
+        let longer = longer(list, &draft.released, newest, segments)?;
+        let changed = live.put(alloc, updates, group, draft, meter)?;
+        *list = longer;
+        return Ok(changed);
+    }
     list.reserve(few, segments)?;
     let changed = live.put(alloc, updates, group, draft, meter)?;
     list.push_upto(&changed.released, newest);
     Ok(changed)
 }
 
-/// A copy of a dead list. Those of the released blocks that were born no later than the group are added at its end.
+// A copy of a dead list with those of the released blocks that were born no later than the group. Few of its entries wait.
 fn longer(
     dead: &Deadlist,
-    alloc: Global,
     released: &[Dead],
     newest: Group,
     segments: &mut SegMeter,
-) -> Result<Arc<Deadlist>, Refusal>
-    ensures ok { IfOk result (λ d. HasGained dead.now.entries (arc_value d).entries released.now newest.0) }
-    ensures cuts { IfOk result (λ d. (arc_value d).cuts ≡ dead.now.cuts) }
+) -> Result<Deadlist, Refusal>
+    requires { IsPlain dead.now }
+    ensures ok { IfOk result (λ d. HasGained dead.now.entries d.entries released.now newest.0) }
+    ensures plain { IfOk result IsPlain }
     ensures only { IfErr result (λ e. e ≡ Refusal.NoMemory) }
     ensures never_lower { segments.old ≤ segments.new }
 {
     let mut list = dead.copy(segments)?;
     list.reserve(count_upto(released, newest), segments)?;
     list.push_upto(released, newest);
-    Ok(Arc::new(alloc, list)?)
+    list.reserve(0, segments)?;
+    Ok(list)
 }

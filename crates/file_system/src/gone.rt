@@ -1,10 +1,10 @@
 //! Counts, from the dead lists, of the blocks that a dataset of a file system lacks and the dataset before it has.
-ghost use Rattle.std.specs.Prelude.{◌≡◌, ◌≤◌, ◌+◌, ◌-◌, ◌*◌, ◌^◌, min, map, length};
+ghost use Rattle.std.specs.Prelude.{◌≡◌, ◌≤◌, ◌+◌, ◌-◌, ◌^◌, min, map};
 ghost use Rattle.std.specs.List.{sum_by};
 ghost use Rattle.std.specs.Option.{option_map};
 ghost use Rattle.std.specs.FinSet.{len};
 ghost use Rattle.world.specs.Blocks.{upto, after};
-ghost use Rattle.file_system.specs.Gone.{count_on, is_asked, kept_count, entry_count, dead_between, size_on, kept_segments, segment_count};
+ghost use Rattle.file_system.specs.Gone.{count_on, is_asked, kept_count, entry_count, dead_between, size_on, reach_of, kept_reach, whole_reach, lists_reach};
 
 use crate::file_system::FileSystem;
 use base::meter::SegMeter;
@@ -46,10 +46,11 @@ fn asks_for(asked: Asked, group: Group) -> bool
     is_later && is_by
 }
 
-// The number of entries of this dead list on the asked side of the cut. It costs the segments of the list.
+// The number of entries of this dead list on the asked side of the cut. The meter counts the segments of the list and the entries that the sum
+// looks at.
 fn count_on(dead: &Deadlist, asked: Asked, segments: &mut SegMeter) -> u64
     ensures count { result ≡ count_on asked.side asked.cut.0 dead.now.entries }
-    ensures meter { segments.new ≤ segments.old + (length dead.now.cuts + 1) }
+    ensures meter { segments.new ≤ segments.old + reach_of dead.now }
     ensures never_lower { segments.old ≤ segments.new }
 {
     match asked.side {
@@ -58,10 +59,10 @@ fn count_on(dead: &Deadlist, asked: Asked, segments: &mut SegMeter) -> u64
     }
 }
 
-// The number of counted entries of a snapshot's dead list. Where the list is counted, it costs the segments of the list.
+// The number of counted entries of a snapshot's dead list. Where the list is counted, it costs what `count_on` does.
 fn count_kept(kept: &Kept, asked: Asked, segments: &mut SegMeter) -> u64
     ensures count { result ≡ kept_count asked kept.now }
-    ensures meter { segments.new ≤ segments.old + kept_segments asked kept.now }
+    ensures meter { segments.new ≤ segments.old + kept_reach asked kept.now }
     ensures never_lower { segments.old ≤ segments.new }
 {
     if asks_for(asked, kept.snapshot.group()) {
@@ -74,7 +75,7 @@ fn count_kept(kept: &Kept, asked: Asked, segments: &mut SegMeter) -> u64
 // The number of counted entries of the dead lists of these snapshots, at most the greatest u64. It costs what `count_gone` does.
 fn count_snapshots(kept: &SharedList<Kept>, asked: Asked, segments: &mut SegMeter) -> u64
     ensures count { result ≡ min (2 ^ 64 - 1) (sum_by (kept_count asked) kept.now) }
-    ensures meter { segments.new ≤ segments.old + sum_by (kept_segments asked) kept.now }
+    ensures meter { segments.new ≤ segments.old + sum_by (kept_reach asked) kept.now }
     ensures never_lower { segments.old ≤ segments.new }
 {
     let mut total: u64 = 0;
@@ -85,7 +86,7 @@ fn count_snapshots(kept: &SharedList<Kept>, asked: Asked, segments: &mut SegMete
 }
 
 /// The number of counted entries of the dead lists of these snapshots and of the live map, at most the greatest u64. It costs the number of
-/// snapshots, and the segments of the dead lists that are counted.
+/// snapshots, and for each dead list that is counted its segments and the entries that the sum looks at, which the meter counts.
 pub fn count_gone(
     kept: &SharedList<Kept>,
     dead: &Deadlist,
@@ -93,7 +94,7 @@ pub fn count_gone(
     segments: &mut SegMeter,
 ) -> u64
     ensures count { result ≡ min (2 ^ 64 - 1) (entry_count asked kept.now dead.now.entries) }
-    ensures meter { segments.new ≤ segments.old + segment_count asked kept.now dead.now.cuts }
+    ensures meter { segments.new ≤ segments.old + whole_reach asked kept.now dead.now }
     ensures never_lower { segments.old ≤ segments.new }
 {
     let total = count_snapshots(kept, asked, segments);
@@ -107,7 +108,7 @@ impl FileSystem {
     // The number of counted entries of the dead lists of this file system. It costs what `gone_upto` does.
     fn gone_with(&self, asked: Asked, segments: &mut SegMeter) -> u64
         ensures count { result ≡ min (2 ^ 64 - 1) (sum_by (λ g. size_on asked.side asked.cut.0 g.blocks) (dead_between (option_map (λ g. g.0) asked.from) (option_map (λ g. g.0) asked.until) self.now)) }
-        ensures meter { segments.new ≤ segments.old + length (dead_between (option_map (λ g. g.0) asked.from) (option_map (λ g. g.0) asked.until) self.now) }
+        ensures meter { segments.new ≤ segments.old + lists_reach (dead_between (option_map (λ g. g.0) asked.from) (option_map (λ g. g.0) asked.until) self.now) }
         ensures never_lower { segments.old ≤ segments.new }
     {
         count_gone(self.snapshots.list(), &self.dead, asked, segments)
@@ -126,8 +127,7 @@ impl FileSystem {
         segments: &mut SegMeter,
     ) -> u64
         ensures count { result ≡ min (2 ^ 64 - 1) (sum_by (λ g. len (upto cut.0 g.blocks)) (dead_between (option_map (λ g. g.0) from) (option_map (λ g. g.0) until) self.now)) }
-        ensures meter { segments.new ≤ segments.old + 2 * length (dead_between (option_map (λ g. g.0) from) (option_map (λ g. g.0) until) self.now) }
-        ensures once { segments.new ≤ segments.old + length (dead_between (option_map (λ g. g.0) from) (option_map (λ g. g.0) until) self.now) }
+        ensures meter { segments.new ≤ segments.old + lists_reach (dead_between (option_map (λ g. g.0) from) (option_map (λ g. g.0) until) self.now) }
         ensures never_lower { segments.old ≤ segments.new }
     {
         let side = Side::Upto;
@@ -150,8 +150,7 @@ impl FileSystem {
         segments: &mut SegMeter,
     ) -> u64
         ensures count { result ≡ min (2 ^ 64 - 1) (sum_by (λ g. len (after cut.0 g.blocks)) (dead_between (option_map (λ g. g.0) from) (option_map (λ g. g.0) until) self.now)) }
-        ensures meter { segments.new ≤ segments.old + 2 * length (dead_between (option_map (λ g. g.0) from) (option_map (λ g. g.0) until) self.now) }
-        ensures once { segments.new ≤ segments.old + length (dead_between (option_map (λ g. g.0) from) (option_map (λ g. g.0) until) self.now) }
+        ensures meter { segments.new ≤ segments.old + lists_reach (dead_between (option_map (λ g. g.0) from) (option_map (λ g. g.0) until) self.now) }
         ensures never_lower { segments.old ≤ segments.new }
     {
         let side = Side::After;

@@ -7,7 +7,7 @@ ghost use Rattle.model.specs.World.{id_of, same_id};
 ghost use Rattle.model.specs.Ids.{snap_id};
 ghost use Rattle.shared_list.specs.Around.{IsAround};
 ghost use Rattle.world.specs.Worlds.{AreRising};
-ghost use Rattle.file_system.specs.Dead.{snaps_in, AreUncut};
+ghost use Rattle.file_system.specs.Dead.{snaps_in, AreUncut, IsPlain};
 ghost use Rattle.file_system.specs.Origins.{blocks_below, group_below};
 ghost use Rattle.file_system.specs.Splices.{AreJoined, CanJoin, IsNext};
 
@@ -88,7 +88,7 @@ pub fn joined(
     requires uncut { AreUncut kept.now }
     requires next { next.now.cuts ≡ [] }
     ensures ok { IfOk result (λ p. AreJoined base.0 kept.now place next.now.entries p.0.entries p.1.entries) }
-    ensures uncut { IfOk result (λ p. p.0.cuts ≡ []) }
+    ensures plain { IfOk result (λ p. IsPlain p.0) }
     ensures err { IfErr result (λ e. e ≡ Refusal.NoMemory) }
     ensures never_lower { segments.old ≤ segments.new }
 {

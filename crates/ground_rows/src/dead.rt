@@ -93,16 +93,46 @@ fn look(list: &Deadlist) -> Told {
     Told::Three(count, sum, meter.count())
 }
 
+/// How many cuts are at a group or before it, and whether one is there.
+fn cuts_by(list: &Deadlist, at: u64) -> (u64, bool) {
+    let (mut count, mut is_there) = (0u64, false);
+    for index in 0..list.segments() {
+        if let Some(cut) = list.cut_at(index) {
+            if cut.0 <= at {
+                count = count.saturating_add(1);
+            }
+            if cut.0 == at {
+                is_there = true;
+            }
+        }
+    }
+    (count, is_there)
+}
+
+/// What a sum tells that reaches so many segments: its count, and these segments. The meter counts them, and some entries, none of them twice.
+/// Where it counts fewer or more than that, what it counts is told in their place.
+fn summed(list: &Deadlist, count: u64, segments: u64, meter: SegMeter) -> Told {
+    let counted = meter.count();
+    let is_within = segments <= counted && counted <= segments.saturating_add(list.len());
+    Told::Two(count, if is_within { segments } else { counted })
+}
+
+/// A sum reaches the segments that end after the group.
 fn after(list: &Deadlist, at: u64) -> Told {
     let mut meter = meter();
     let count = list.space_after(Group(at), &mut meter);
-    Told::Two(count, meter.count())
+    let (passed, _) = cuts_by(list, at);
+    let segments = (list.segments() as u64).saturating_sub(passed);
+    summed(list, count, segments, meter)
 }
 
+/// A sum reaches the segments that end at the group or before it, and one more where there is no cut.
 fn upto(list: &Deadlist, at: u64) -> Told {
     let mut meter = meter();
     let count = list.space_upto(Group(at), &mut meter);
-    Told::Two(count, meter.count())
+    let (passed, is_there) = cuts_by(list, at);
+    let segments = passed.saturating_add(u64::from(!is_there));
+    summed(list, count, segments, meter)
 }
 
 /// How many segments there are, and a sum of the cuts from the lowest on.

@@ -1,5 +1,5 @@
 -- What has gone with a stretch of the datasets of a file system, by the definitions.
-use Rattle.std.proofs.Common.{◌≡◌, ℕ, ◌+◌, Bool, true, false, cond, List, [], ◌∷◌, ◌++◌, ◌&&◌, length, Option, Some, None, refl, sym, ap, subst, ◌∙◌, inl, inr, append_assoc, append-nil, arith}
+use Rattle.std.proofs.Common.{◌≡◌, ℕ, ◌+◌, Bool, true, false, cond, List, [], ◌∷◌, ◌++◌, ◌&&◌, Option, Some, None, refl, sym, ap, subst, ◌∙◌, inl, inr, append_assoc, append-nil, arith}
 use Rattle.std.specs.List.{sum_by, filter}
 use Rattle.std.specs.Prelude.{nat_le}
 use Rattle.std.specs.Option.{option_map}
@@ -20,12 +20,13 @@ use Rattle.world.specs.Worlds.{AreRising}
 use Rattle.world.proofs.lineage.Bridge.{in_middle, rising_above, rising_below, rising_after, map_of_live, map_of_kept, previous_of_live, previous_of_kept}
 use Rattle.world.proofs.lists.Finding.{in_left, in_right}
 use Rattle.datasets.specs.Dead.{newest_blocks}
-use Rattle.datasets.specs.Gone.{Gone, gone_in, dead_between, is_between, is_later}
+use Rattle.datasets.specs.Gone.{Gone, gone_in, dead_between, is_between, is_later, most_reached, lists_reach}
 use Rattle.datasets.specs.Splices.{oldest_blocks}
 use Rattle.datasets.specs.Clones.{below_in, row_in}
 use Rattle.datasets.specs.Table.{IsTable}
 use Rattle.datasets.proofs.Above.{below_is}
 use Rattle.accounts.specs.Space.{with_next}
+use Rattle.lookups.specs.Since.{dead_reach}
 
 -- what comes next after a stretch stands between the two, and nothing after it does
 abbrev pub IsNextBetween : Option ℕ → Option ℕ → List Snap → Type 0
@@ -197,16 +198,11 @@ module _ (t : Datasets) (sound : IsTable t) (name : Name) (f : FileSystem) (at :
       as_sum [] = refl
       as_sum (d ∷ ds) = ap (λ n. len (after cut (dead_of (world_of t) d)) + n) (as_sum ds)
 
-  -- how many they are
-  pub gone_many : (from until : Option ℕ) (older range newer : List Snap) → f.snaps ≡ older ++ (range ++ newer) → IsStretch from until older range newer
-      → length (dead_between from until (row_in t.file_systems (name, f))) ≡ length (with_next name range newer)
-  gone_many from until older range newer is s =
-      ones (dead_between from until (row_in t.file_systems (name, f))) ∙ gone_is (λ x. 1) from until older range newer is s ∙ as_count (with_next name range newer)
+  -- and what their sums add to the count of segments
+  pub gone_reach : (from until : Option ℕ) (older range newer : List Snap) → f.snaps ≡ older ++ (range ++ newer) → IsStretch from until older range newer
+      → lists_reach (dead_between from until (row_in t.file_systems (name, f))) ≡ dead_reach (world_of t) (with_next name range newer)
+  gone_reach from until older range newer is s = gone_is (λ x. most_reached (len x)) from until older range newer is s ∙ as_sum (with_next name range newer)
     where
-      ones : (gs : List Gone) → length gs ≡ sum_by (λ (g : Gone). 1) gs
-      ones [] = refl
-      ones (g ∷ gs) = let rest = ones gs in let first = sum_by-cons (λ (x : Gone). 1) g gs in omega arith
-
-      as_count : (ds : List Dataset) → total (λ d. 1) ds ≡ length ds
-      as_count [] = refl
-      as_count (d ∷ ds) = let rest = as_count ds in omega arith
+      as_sum : (ds : List Dataset) → total (λ d. most_reached (len (dead_of (world_of t) d))) ds ≡ dead_reach (world_of t) ds
+      as_sum [] = refl
+      as_sum (d ∷ ds) = ap (λ n. most_reached (len (dead_of (world_of t) d)) + n) (as_sum ds)

@@ -1,5 +1,5 @@
 -- The walk down a lineage, a file system at a time.
-use Rattle.std.proofs.Common.{◌≡◌, ℕ, ◌+◌, ◌<◌, ◌≤◌, ◌^◌, ◌||◌, true, false, List, [], ◌∷◌, ◌++◌, Option, Some, None, map, refl, sym, ap, subst, ◌∙◌, true≢false, inl, inr, ⊎_elim, append_assoc, append-nil, length, arith}
+use Rattle.std.proofs.Common.{◌≡◌, ℕ, ◌+◌, ◌<◌, ◌≤◌, ◌^◌, ◌||◌, true, false, List, [], ◌∷◌, ◌++◌, Option, Some, None, map, refl, sym, ap, subst, ◌∙◌, true≢false, inl, inr, ⊎_elim, append_assoc, append-nil, arith}
 use Rattle.std.specs.Prelude.{Bool, ◌↔◌, IsTrue, min, nat_lt, IfNone, ◌-◌}
 use Rattle.std.specs.List.{list_any, sum_by}
 use Rattle.std.specs.Option.{option_map, option_map_or}
@@ -8,7 +8,7 @@ use Rattle.std.specs.FinSet.{len}
 use Rattle.std.proofs.lemmas.Bool.{lt-ltb, le-ltb, ltb-true, ltb-false, false_from_ne_true}
 use Rattle.base.specs.Surveys.{IsIn}
 use Rattle.base.specs.Names.{same_name}
-use Rattle.model.specs.World.{FileSystem, Snap, SnapId, Dataset, Snapped, id_of, same_id, snap_at, newest_or_origin, older_of}
+use Rattle.model.specs.World.{World, FileSystem, Snap, SnapId, Dataset, Snapped, id_of, same_id, snap_at, newest_or_origin, older_of}
 use Rattle.world.specs.Blocks.{upto}
 use Rattle.world.specs.Dead.{IsThere, group_of, next_in}
 use Rattle.world.specs.Sums.{dead_by}
@@ -18,7 +18,7 @@ use Rattle.world.proofs.lineage.Bridge.{in_middle, rising_above, rising_below, r
 use Rattle.world.proofs.lists.Finding.{same_id_is, name_itself, one_name, in_left, in_either}
 use Rattle.world.proofs.lists.Maps.{same_value, no_value}
 use Rattle.world.proofs.changes.Promotions.{split_at}
-use Rattle.datasets.specs.Gone.{Gone, dead_between}
+use Rattle.datasets.specs.Gone.{Gone, dead_between, lists_reach}
 use Rattle.datasets.specs.Origins.{origin_group}
 use Rattle.datasets.specs.Rows.{Row}
 use Rattle.datasets.specs.Clones.{row_in}
@@ -29,8 +29,8 @@ use Rattle.accounts.proofs.Older.{previous_there, not_older_low}
 use Rattle.accounts.proofs.Next.{newest_last, next_there, next_previous}
 use Rattle.accounts.proofs.Walks.{path_join, on_path_join, on_path_range, path_in, older_in}
 use Rattle.lookups.specs.Places.{dataset_at, IsPlace, IsHome}
-use Rattle.lookups.specs.Since.{is_before, IsDeadSince, HasReached}
-use Rattle.lookups.proofs.Between.{IsStretch, first_group, stretch_until, gone_by, gone_many}
+use Rattle.lookups.specs.Since.{is_before, dead_reach, IsDeadSince, HasReached}
+use Rattle.lookups.proofs.Between.{IsStretch, first_group, stretch_until, gone_by, gone_reach}
 
 pub if_none : {A P : Type 0} (x : Option A) → P → IfNone x P
 if_none None p = p
@@ -53,8 +53,8 @@ abbrev pub top : ℕ
 top = 2 ^ 64 - 1
 
 -- A walk down from a dataset in search of a snapshot stands at the one that comes next after the older snapshots of this file system: what is
--- older than that is what is left to search, and the dead lists of those that were passed have so many entries, and one segment at most
--- that was reached
+-- older than that is what is left to search; the dead lists of those that were passed have so many entries, and what was reached is no more
+-- than their sums add
 pub record IsAt (t : Datasets) (from : Dataset) (id : SnapId) (r : Row) (until : Option ℕ) (gone reached : ℕ) : Type 0 where
   pub row : r ≡ row_in t.file_systems (r.name, r.system)
   pub at : get t.file_systems r.name ≡ Some r.system
@@ -70,17 +70,18 @@ pub record IsAt (t : Datasets) (from : Dataset) (id : SnapId) (r : Row) (until :
   pub joins :
       (ids : List SnapId) → IsPath (world_of t) id ids (next_in r.name newer)
       → (all : List SnapId) × IsPath (world_of t) id all from × (dead_by (world_of t) id.group (on_path all from) ≡ dead_by (world_of t) id.group (on_path ids (next_in r.name newer)) + sum)
-      × (length (on_path all from) ≡ length (on_path ids (next_in r.name newer)) + passed)
+      × (dead_reach (world_of t) (on_path all from) ≡ dead_reach (world_of t) (on_path ids (next_in r.name newer)) + passed)
 
 -- what is told of a dataset whose lineage has the snapshot
 pub record IsFound (t : Datasets) (from : Dataset) (id : SnapId) (total all : ℕ) : Type 0 where
   pub gone : IsDeadSince t from id total
   pub reached : HasReached t from id all
 
--- the lengths of two paths, one after the other
-on_path_length : (ids : List SnapId) (j : SnapId) (js : List SnapId) (d : Dataset) → length (on_path (ids ++ j ∷ js) d) ≡ length (on_path ids (Snapped j)) + length (on_path js d)
-on_path_length [] j js d = omega arith
-on_path_length (i ∷ is) j js d = let rest = on_path_length is j js d in omega arith
+-- what the sums over two paths add, one after the other
+on_path_reach : (w : World) (ids : List SnapId) (j : SnapId) (js : List SnapId) (d : Dataset)
+    → dead_reach w (on_path (ids ++ j ∷ js) d) ≡ dead_reach w (on_path ids (Snapped j)) + dead_reach w (on_path js d)
+on_path_reach w [] j js d = omega arith
+on_path_reach w (i ∷ is) j js d = let rest = on_path_reach w is j js d in omega (arith, rest)
 
 -- it begins at the dataset itself
 pub begins : (t : Datasets) (r : Row) (u : Option Snap) (id : SnapId) (none : ℕ) → none ≤ 0 → IsPlace t r u → IsAt t (dataset_at r u) id r (option_map (λ (s : Snap). s.group) u) 0 none
@@ -125,14 +126,14 @@ module _ (t : Datasets) (sound : IsTable t) (from : Dataset) (id : SnapId) (owne
   -- where the walk has come, and what the stretch before it counts
   found_at : (mid : List Snap) (o : SnapId) (rest : ℕ) → o ≡ id → (past : List Snap) → r.system.snaps ≡ past ++ (mid ++ now.newer) → newest_or_origin r.system past ≡ Some o
       → rest ≡ min top (dead_by (world_of t) id.group (with_next r.name mid now.newer)) → (total : ℕ) → total ≡ min (gone + rest) top
-      → (all : ℕ) → all ≤ reached + length (with_next r.name mid now.newer) → IsFound t from id total all
+      → (all : ℕ) → all ≤ reached + dead_reach (world_of t) (with_next r.name mid now.newer) → IsFound t from id total all
   found_at mid o rest is past snaps_are newest rest_is total total_is all few =
       let p = subst (λ i. IsPath (world_of t) i (map id_of mid) (next_in r.name now.newer)) is (path_in (world_of t) sound.systems r.name r.system now.at past mid now.newer snaps_are o newest) in
       let j = now.joins (map id_of mid) p in
       let e = j.2 in
       let many = j.3 in
       let s = ap (dead_by (world_of t) id.group) (on_path_range r.name mid now.newer) in
-      let n = ap (λ (l : List Dataset). length l) (on_path_range r.name mid now.newer) in
+      let n = ap (dead_reach (world_of t)) (on_path_range r.name mid now.newer) in
       let g = now.gone_is in
       let was = now.few in
       record {
@@ -186,14 +187,14 @@ module _ (t : Datasets) (sound : IsTable t) (from : Dataset) (id : SnapId) (owne
           at : IsThere (world_of t) (Snapped o) → ⊥
           at (name, f, u, f_at, i, is) = no_value (name, u) (sym e ∙ snap_is_at (world_of t) t.group sound.systems.lines name f u o f_at i is)
 
-      -- as many dead lists were read as there are datasets here
-      list_count : length (dead_between None until r) ≡ length (with_next r.name now.older now.newer)
-      list_count = ap (λ x. length (dead_between None until x)) now.row ∙ gone_many t sound r.name r.system now.at None until [] now.older now.newer now.snaps_are whole
+      -- what the sums over the dead lists here add
+      passed_reach : lists_reach (dead_between None until r) ≡ dead_reach (world_of t) (with_next r.name now.older now.newer)
+      passed_reach = ap (λ x. lists_reach (dead_between None until x)) now.row ∙ gone_reach t sound r.name r.system now.at None until [] now.older now.newer now.snaps_are whole
 
       -- the origin is it
-      pub found_below : o ≡ id → (total : ℕ) → total ≡ min (gone + rest) top → (all : ℕ) → all ≤ reached + length (dead_between None until r) → IsFound t from id total all
+      pub found_below : o ≡ id → (total : ℕ) → total ≡ min (gone + rest) top → (all : ℕ) → all ≤ reached + lists_reach (dead_between None until r) → IsFound t from id total all
       found_below is total total_is all few =
-          found_at now.older o rest is [] now.snaps_are origin rest_counts total total_is all (let n = list_count in omega (arith, few, n))
+          found_at now.older o rest is [] now.snaps_are origin rest_counts total total_is all (let n = passed_reach in omega (arith, few, n))
 
       -- the origin is another one, and no newer
       pub passed_by : (o ≡ id → ⊥) → o.group ≤ id.group → is_before t from id ≡ false
@@ -206,7 +207,7 @@ module _ (t : Datasets) (sound : IsTable t) (from : Dataset) (id : SnapId) (owne
 
       -- the walk goes on from the origin, which is newer
       pub goes_on : id.group < o.group → (next : Row) (u : Snap) → IsPlace t next (Some u) → id_of u ≡ o → (total : ℕ) → total ≡ min (gone + rest) top
-          → (all : ℕ) → all ≤ reached + length (dead_between None until r) → IsAt t from id next (Some o.group) total all
+          → (all : ℕ) → all ≤ reached + lists_reach (dead_between None until r) → IsAt t from id next (Some o.group) total all
       goes_on high next u place is total total_is all few =
           let parts = split_at next.system.snaps u place.snap in
           let g = now.gone_is in
@@ -221,8 +222,8 @@ module _ (t : Datasets) (sound : IsTable t) (from : Dataset) (id : SnapId) (owne
             same = at_origin ∙ ap (λ b. b || list_any (same_id id) (older_of (world_of t) (Snapped o))) other_id ∙ ap (λ i. list_any (same_id id) (older_of (world_of t) (Snapped i))) (sym is);
             sum = dead_by (world_of t) id.group (with_next r.name now.older now.newer) + now.sum;
             gone_is = omega (arith, g, c, total_is);
-            passed = length (with_next r.name now.older now.newer) + now.passed;
-            few = let n = list_count in let was = now.few in omega (arith, few, n, was);
+            passed = dead_reach (world_of t) (with_next r.name now.older now.newer) + now.passed;
+            few = let n = passed_reach in let was = now.few in omega (arith, few, n, was);
             joins = λ ids p.
                 let q = subst (λ i. IsPath (world_of t) id ids (Snapped i)) is p in
                 let j = now.joins (ids ++ o ∷ map id_of now.older) (path_join (world_of t) id ids o (map id_of now.older) (next_in r.name now.newer) q origin_path) in
@@ -231,9 +232,9 @@ module _ (t : Datasets) (sound : IsTable t) (from : Dataset) (id : SnapId) (owne
                 let a = on_path_join (world_of t) id.group ids o (map id_of now.older) (next_in r.name now.newer) in
                 let d = ap (dead_by (world_of t) id.group) (on_path_range r.name now.older now.newer) in
                 let h = ap (λ i. dead_by (world_of t) id.group (on_path ids (Snapped i))) is in
-                let l = on_path_length ids o (map id_of now.older) (next_in r.name now.newer) in
-                let m = ap (λ (x : List Dataset). length x) (on_path_range r.name now.older now.newer) in
-                let k = ap (λ i. length (on_path ids (Snapped i))) is in
+                let l = on_path_reach (world_of t) ids o (map id_of now.older) (next_in r.name now.newer) in
+                let m = ap (dead_reach (world_of t)) (on_path_range r.name now.older now.newer) in
+                let k = ap (λ i. dead_reach (world_of t) (on_path ids (Snapped i))) is in
                 (j.0, j.1, omega (arith, e, a, d, h), omega (arith, many, l, m, k));
           }
         where
@@ -323,10 +324,10 @@ module _ (t : Datasets) (sound : IsTable t) (from : Dataset) (id : SnapId) (owne
           lt-ltb id.group x.group (omega (arith, l, e)))
 
       pub found_here : (rest : ℕ) → rest ≡ min top (sum_by (λ (g : Gone). len (upto id.group g.blocks)) (dead_between (Some id.group) until r))
-          → (total : ℕ) → total ≡ min (gone + rest) top → (all : ℕ) → all ≤ reached + length (dead_between (Some id.group) until r) → IsFound t from id total all
+          → (total : ℕ) → total ≡ min (gone + rest) top → (all : ℕ) → all ≤ reached + lists_reach (dead_between (Some id.group) until r) → IsFound t from id total all
       found_here rest rest_is total total_is all few =
           found_at parts.1 (id_of home.snap) rest home.is past parted (newest_last r.system parts.0 home.snap)
           (rest_is ∙ ap (min top) (ap (λ x. sum_by (λ (g : Gone). len (upto id.group g.blocks)) (dead_between (Some id.group) until x)) now.row
           ∙ gone_by t sound r.name r.system now.at id.group (Some id.group) until past parts.1 now.newer parted cut_stretch))
           total total_is all
-          (let n = ap (λ x. length (dead_between (Some id.group) until x)) now.row ∙ gone_many t sound r.name r.system now.at (Some id.group) until past parts.1 now.newer parted cut_stretch in omega (arith, few, n))
+          (let n = ap (λ x. lists_reach (dead_between (Some id.group) until x)) now.row ∙ gone_reach t sound r.name r.system now.at (Some id.group) until past parts.1 now.newer parted cut_stretch in omega (arith, few, n))

@@ -1,5 +1,5 @@
 -- A range of the snapshots of a file system, as a stretch of them.
-use Rattle.std.proofs.Common.{◌≡◌, ℕ, zero, suc, ◌+◌, ◌<◌, ◌≤◌, ◌&&◌, ◌||◌, Bool, true, false, cond, List, [], ◌∷◌, ◌++◌, Option, Some, None, map, length, refl, sym, ap, subst, ◌∙◌, true≢false, inl, inr, ⊎_elim, arith, append_assoc}
+use Rattle.std.proofs.Common.{◌≡◌, ℕ, zero, suc, ◌+◌, ◌<◌, ◌≤◌, ◌&&◌, ◌||◌, Bool, true, false, cond, List, [], ◌∷◌, ◌++◌, Option, Some, None, map, drop, length, refl, sym, ap, subst, ◌∙◌, true≢false, inl, inr, ⊎_elim, arith, append_assoc}
 use Rattle.std.specs.Prelude.{not, is_some, nat_lt, nat_le}
 use Rattle.std.specs.List.{filter, find, list_any, sum_by, last_or}
 use Rattle.std.specs.Option.{option_map, option_map_or, option_and_then}
@@ -16,7 +16,7 @@ use Rattle.model.specs.Sums.{would_free}
 use Rattle.model.specs.requests.Rollback.{has_clone_outside}
 use Rattle.model.specs.requests.WouldFree.{within}
 use Rattle.world.specs.Blocks.{after, block_order as o}
-use Rattle.world.specs.Dead.{HasNoCloneIn, dead_of}
+use Rattle.world.specs.Dead.{HasNoCloneIn, dead_of, next_in}
 use Rattle.world.specs.Sets.{Has}
 use Rattle.world.specs.Sums.{dead_since}
 use Rattle.world.specs.Tables.{Datasets, world_of}
@@ -26,7 +26,7 @@ use Rattle.world.proofs.lineage.Lineage.{from_after}
 use Rattle.world.proofs.lists.Maps.{same_value, no_value}
 use Rattle.world.proofs.lists.SetCounts.{from_difference, some_member}
 use Rattle.datasets.specs.Dead.{newest_blocks}
-use Rattle.datasets.specs.Gone.{Gone, dead_between}
+use Rattle.datasets.specs.Gone.{Gone, dead_between, lists_reach}
 use Rattle.datasets.specs.Origins.{origin_group}
 use Rattle.datasets.specs.Rows.{Row}
 use Rattle.datasets.specs.Clones.{row_in, below_in}
@@ -35,10 +35,12 @@ use Rattle.datasets.specs.Table.{IsTable}
 use Rattle.datasets.proofs.ClonesOf.{none_counted}
 use Rattle.datasets.proofs.Above.{snap_above}
 use Rattle.datasets.proofs.Removed.{are_above}
-use Rattle.accounts.specs.Space.{newest_group, with_next}
+use Rattle.accounts.specs.Space.{newest_group, on_path, with_next}
 use Rattle.accounts.proofs.Ranges.{three_parts, would_free_is}
-use Rattle.lookups.specs.Ranges.{group_at, lacks, is_in_range, range_ids, range_refusal, is_cloned, has_clone_between, group_after, older_than, IsRange}
-use Rattle.lookups.proofs.Between.{IsStretch, first, first_group, stretch_until, dead_snap, gone_many, gone_since}
+use Rattle.accounts.proofs.Walks.{on_path_range}
+use Rattle.lookups.specs.Ranges.{group_at, lacks, is_in_range, range_ids, range_refusal, is_cloned, has_clone_between, group_after, older_than, newer_than, after_first, range_reach, IsRange}
+use Rattle.lookups.specs.Since.{dead_reach}
+use Rattle.lookups.proofs.Between.{IsStretch, first, first_group, stretch_until, dead_snap, gone_reach, gone_since}
 
 -- ---- rising snapshots, parted by two groups
 
@@ -270,17 +272,21 @@ module _ (t : Datasets) (sound : IsTable t) (name fst lst : List ℕ) (r : Row) 
       subst (λ x. IsStretch (Some a) x (low_ones ++ oldest ∷ []) rest newer_ones) (sym next_is)
       (rest_stretch (origin_group r.system.origin) snaps ups a b is.order oldest rest parts.2 parts.3)
 
-  -- how many dead lists are asked for
-  pub lists_are : (next : Option ℕ) → next ≡ group_after b r.system.snaps → length (dead_between (Some a) next r) ≡ length (range_ids t name fst lst)
-  lists_are next next_is =
-      ap (λ x. length (dead_between (Some a) next x)) is.row
-      ∙ gone_many t sound name r.system is.at (Some a) next (low_ones ++ oldest ∷ []) rest newer_ones cut_after (stretch_is next next_is)
-      ∙ one_more rest newer_ones
-      ∙ sym (ap (λ ids. length ids) (ranged_ids ∙ ap (map id_of) parts.2))
+  -- what the sums over the dead lists that are asked for add to the count of segments
+  pub reach_is : (next : Option ℕ) → next ≡ group_after b r.system.snaps → lists_reach (dead_between (Some a) next r) ≡ range_reach t name fst lst
+  reach_is next next_is =
+      ap (λ x. lists_reach (dead_between (Some a) next x)) is.row
+      ∙ gone_reach t sound name r.system is.at (Some a) next (low_ones ++ oldest ∷ []) rest newer_ones cut_after (stretch_is next next_is)
+      ∙ sym by_names
     where
-      one_more : (range newer : List Snap) → length (with_next name range newer) ≡ length (map id_of (oldest ∷ range))
-      one_more [] newer = refl
-      one_more (x ∷ xs) newer = let more = one_more xs newer in omega arith
+      ids : range_ids t name fst lst ≡ map id_of (oldest ∷ rest)
+      ids = ranged_ids ∙ ap (map id_of) parts.2
+
+      by_names : range_reach t name fst lst ≡ dead_reach (world_of t) (with_next name rest newer_ones)
+      by_names =
+          ap (λ x. option_map_or (λ (f : FileSystem). dead_reach (world_of t) (after_first t name fst lst f)) x 0) is.at
+          ∙ (λ i. dead_reach (world_of t) (on_path (drop 1 (ids i)) (next_in name (newer_than (is.to i) r.system.snaps))))
+          ∙ ap (dead_reach (world_of t)) (on_path_range name rest newer_ones)
 
   -- what has gone with the first of the range was there before it
   none_after : (n : ℕ) → (0 < n → ⊥) → n ≡ 0

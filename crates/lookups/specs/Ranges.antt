@@ -1,18 +1,21 @@
 -- A range of the snapshots of a file system.
-use Rattle.std.specs.Prelude.{◌≡◌, ◌≤◌, ℕ, Bool, false, not, ◌&&◌, ◌||◌, List, [], ◌∷◌, Option, None, Some, map, is_some, length, nat_lt, nat_le}
+use Rattle.std.specs.Prelude.{◌≡◌, ◌≤◌, ℕ, Bool, false, not, ◌&&◌, ◌||◌, List, [], ◌∷◌, Option, None, Some, map, drop, is_some, length, nat_lt, nat_le}
 use Rattle.std.specs.List.{filter, find, list_any}
 use Rattle.std.specs.Option.{option_map, option_map_or}
 use Rattle.std.specs.FinMap.{get}
 use Rattle.base.specs.declared.refusal.Refusal.{Refusal}
 use Rattle.base.specs.declared.refusal.Refusal.TheVariants.{NoDataset, NotAncestor, HasClones}
 use Rattle.base.specs.Names.{same_name}
-use Rattle.model.specs.World.{Snap, SnapId, id_of, snap_named, clones_of}
+use Rattle.model.specs.World.{FileSystem, Snap, SnapId, Dataset, id_of, snap_named, clones_of}
 use Rattle.model.specs.Rule.{first_of}
 use Rattle.model.specs.requests.Rollback.{has_clone_outside}
 use Rattle.model.specs.requests.WouldFree.{within}
+use Rattle.world.specs.Dead.{next_in}
 use Rattle.world.specs.Tables.{Datasets, world_of}
 use Rattle.datasets.specs.Rows.{Row}
 use Rattle.datasets.specs.Clones.{row_in}
+use Rattle.accounts.specs.Space.{on_path}
+use Rattle.lookups.specs.Since.{dead_reach}
 
 -- the creation group of the snapshot of this name within a file system (zfsprops(7): createtxg)
 abbrev pub group_at : Datasets → List ℕ → List ℕ → ℕ
@@ -56,6 +59,19 @@ group_after last us = option_map (λ u. u.group) (find (λ u. nat_lt last u.grou
 -- the older ones than this group (On-Disk Specification, chapter 4: ds_creation_txg)
 abbrev pub older_than : ℕ → List Snap → List Snap
 older_than first = filter (λ u. nat_lt u.group first)
+
+-- and the newer ones (On-Disk Specification, chapter 4: ds_creation_txg)
+abbrev pub newer_than : ℕ → List Snap → List Snap
+newer_than last = filter (λ u. nat_lt last u.group)
+
+-- the snapshots of a range but its first, and what comes next after the range (zfs-destroy(8): filesystem@first%last)
+abbrev pub after_first : Datasets → List ℕ → List ℕ → List ℕ → FileSystem → List Dataset
+after_first t name first last f = on_path (drop 1 (range_ids t name first last)) (next_in name (newer_than (group_at t name last) f.snaps))
+
+-- how much their dead lists, which tell what the range would free, add to the count of segments, at most (zfs-destroy(8), -nv; the count is
+-- profile)
+abbrev pub range_reach : Datasets → List ℕ → List ℕ → List ℕ → ℕ
+range_reach t name first last = option_map_or (λ f. dead_reach (world_of t) (after_first t name first last f)) (get t.file_systems name) 0
 
 -- What holds where there is an answer: the file system, and the groups of the two; none of the range has a clone (zfs-destroy(8), -nv)
 pub record IsRange (t : Datasets) (name first last : List ℕ) (r : Row) (a b : ℕ) : Type 0 where

@@ -1,18 +1,21 @@
 -- A dataset and a snapshot of its lineage.
-use Rattle.std.specs.Prelude.{◌≡◌, ◌≤◌, ℕ, Bool, not, false, ◌||◌, List, [], ◌∷◌, Option, None, Some, is_some, length, min, ◌-◌, ◌^◌}
+use Rattle.std.specs.Prelude.{◌≡◌, ◌≤◌, ◌+◌, ℕ, Bool, not, false, ◌||◌, List, [], ◌∷◌, Option, None, Some, is_some, min, ◌-◌, ◌^◌}
 use Rattle.std.specs.List.{list_any}
 use Rattle.std.specs.Option.{option_map, option_map_or, option_and_then}
 use Rattle.std.specs.FinMap.{get}
+use Rattle.std.specs.FinSet.{len}
 use Rattle.base.specs.declared.refusal.Refusal.{Refusal}
 use Rattle.base.specs.declared.refusal.Refusal.TheVariants.{NoDataset, NotAncestor}
 use Rattle.base.specs.declared.name.member.Member.{Member}
 use Rattle.base.specs.declared.name.target.Target.{Target}
 use Rattle.base.specs.declared.name.target.Target.TheVariants.{FileSystem as OfFileSystem, Snapshot as OfSnapshot, Bookmark as OfBookmark}
-use Rattle.model.specs.World.{Snap, SnapId, Dataset, Live, Snapped, id_of, same_id, snap_named, older_of}
+use Rattle.model.specs.World.{World, Snap, SnapId, Dataset, Live, Snapped, id_of, same_id, snap_named, older_of}
 use Rattle.model.specs.Sums.{written_since}
 use Rattle.model.specs.Rule.{first_of}
+use Rattle.world.specs.Dead.{dead_of}
 use Rattle.world.specs.Sums.{dead_by}
 use Rattle.world.specs.Tables.{Datasets, world_of}
+use Rattle.datasets.specs.Gone.{most_reached}
 use Rattle.accounts.specs.Space.{IsPath, on_path}
 
 -- the dataset of a name, and none where it isn't there (zfs(8))
@@ -50,14 +53,21 @@ pub record IsDeadSince (t : Datasets) (d : Dataset) (id : SnapId) (gone : ℕ) :
   pub path : IsPath (world_of t) id ids d
   pub counted : gone ≡ min (2 ^ 64 - 1) (dead_by (world_of t) id.group (on_path ids d))
 
--- The snapshot is of the dataset's lineage; and no more segments were reached than one for each dead list of the datasets after it up to
--- this one (On-Disk Specification, chapter 4: ds_deadlist_obj; segments are profile)
+-- How much the sums over the dead lists of these datasets add to the count of segments, at most: for each list its one segment, the entries
+-- that wait, which are 126 at most, and about the square of the logarithm of the others (On-Disk Specification, chapter 4: ds_deadlist_obj; the
+-- count is profile)
+abbrev pub dead_reach : World → List Dataset → ℕ
+dead_reach w [] = 0
+dead_reach w (d ∷ ds) = most_reached (len (dead_of w d)) + dead_reach w ds
+
+-- The snapshot is of the dataset's lineage; and the count of segments rose by no more than the dead lists of the datasets after it up to this
+-- one add, each once (On-Disk Specification, chapter 4: ds_deadlist_obj; the count is profile)
 pub record HasReached (t : Datasets) (d : Dataset) (id : SnapId) (reached : ℕ) : Type 0 where
   pub ids : List SnapId
   pub path : IsPath (world_of t) id ids d
-  pub few : reached ≤ length (on_path ids d)
+  pub few : reached ≤ dead_reach (world_of t) (on_path ids d)
 
--- the same of the dataset and the snapshot of these names (zfsprops(7): written@snapshot; segments are profile)
+-- the same of the dataset and the snapshot of these names (zfsprops(7): written@snapshot; the count is profile)
 pub record HasReachedNamed (t : Datasets) (target : Target) (since : Member) (reached : ℕ) : Type 0 where
   pub dataset : Dataset
   pub dataset_is : dataset_named t target ≡ Some dataset

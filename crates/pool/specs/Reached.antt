@@ -41,8 +41,8 @@ reaches_lists (WrittenSince target since) = true
 reaches_lists (WouldFree name first last) = true
 reaches_lists request = false
 
--- What a request with this reply adds to the counts of a pool: no node and no segment where it reaches none, and where it only reads no more
--- segments than its reply reads of the datasets; neither count falls (profile)
+-- What a request with this reply adds to the counts of a pool: no node and no segment where it reaches none, and where it only reads no more to
+-- that of segments than its reply reads of the datasets; neither count falls (profile)
 pub record IsMetered (old : Shown) (q : Request) (r : Reply) (new : Shown) : Type 0 where
   pub never_lower : old.nodes ≤ new.nodes
   pub segments_never_lower : old.segments ≤ new.segments

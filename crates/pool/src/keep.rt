@@ -55,7 +55,7 @@ impl Drop for Keep {
     }
 }
 
-/// How many nodes and segments were reached since the pool was made.
+/// How many nodes and segments were reached since the pool was made. An entry that a sum looks at counts as a segment.
 pub(crate) struct Meters {
     pub(crate) blocks: Meter,
     pub(crate) segments: SegMeter,
@@ -72,8 +72,7 @@ impl Drop for Meters {
 
 impl Keep {
     /// Settles the effect of a request, once its world is in place. Nothing else changes the states of the numbers, or the image. It allocates
-    /// nothing. It costs the blocks that are released and written, and the numbers that are taken. A sync costs the waiting numbers, and what
-    /// only the previously synced world reached. A sync and an abandon cost the numbers that have changed since the last sync.
+    /// nothing, and costs what `Pool::commit` says.
     pub(crate) fn settle(&mut self, effect: Effect<'_>)
         requires may { MaySettle (world_in self.old.last) self.old.size self.old.numbers.present effect }
         requires synced { self.old.numbers.synced ≡ synced_numbers self.old.size (world_in self.old.last) }

@@ -11,14 +11,12 @@
 #![tactic(auto)]
 
 mod changing;
-mod cloning;
 mod destroying;
 mod effect;
 mod image_laws;
 mod keep;
 mod kind;
 mod limiting;
-mod marking;
 mod performing;
 mod pool;
 mod receiving;

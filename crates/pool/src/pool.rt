@@ -376,10 +376,11 @@ impl Pool {
         reply
     }
 
-    /// How many nodes of trees and how many segments of dead lists were reached since the pool was made. A count stops at the greatest u64. A
-    /// request that only reads reaches nodes where it reads a block or makes a stream. A request that changes the world reaches nodes where it
-    /// changes the contents of a live map, or frees blocks. So a snapshot, a clone, a promote and any request for a property reach none.
-    /// A request that only reads reaches no more segments than the contract of `steps::answer` says. Constant time.
+    /// How many nodes of trees and how many segments of dead lists were reached since the pool was made. The second number also counts each entry
+    /// of a dead list that a sum looks at. A count stops at the greatest u64. A request that only reads reaches nodes where it reads a block or
+    /// makes a stream. A request that changes the world reaches nodes where it changes the contents of a live map, or frees blocks. So a snapshot,
+    /// a clone, a promote and any request for a property reach none. A request that only reads adds no more to the second number than the contract
+    /// of `steps::answer` says. Constant time.
     pub fn meters(&self) -> (u64, u64)
         ensures { result ≡ (self.now.nodes, self.now.segments) }
     {

@@ -23,14 +23,14 @@ use stream::Stream;
 
 /// The datasets that a receive of this stream as a snapshot of this name begins with. For a full stream they have a new file system. For an
 /// incremental one they are as they stand, or with `force` have the file system rolled back to its newest snapshot: the blocks that are lost are
-/// to be freed, and newer bookmarks are destroyed. The table and what it has to free stay as they are. Refused are, for a full stream, Exists
-/// where the file system is there, else NoParent where its parent isn't, else TooMany where there are 1,024 file systems; and for an incremental
-/// one NoDataset where the file system isn't there, else Exists where the snapshot is, else WrongSource where the newest snapshot isn't the
-/// stream's source, else Modified where the live map isn't that snapshot's and `force` isn't set; else for both TooMany where there are 65,536
-/// snapshots or the open group is the last one; else NoMemory where memory is refused, or as `Table::rollback` says (zfs-receive(8), -F; the
-/// order and numbers are profile). It costs the number of file systems, the chunks of pieces that are to be freed, the logarithm of the number
-/// of the file system's snapshots, and with `force` the number of them with the segments of their dead lists, and that of its bookmarks. No
-/// block is visited.
+/// to be freed, and the bookmarks that are newer than that snapshot are destroyed. The table and what it has to free stay as they are. Refused
+/// are, for a full stream, Exists where the file system is there, else NoParent where its parent isn't, else TooMany where there are 1,024 file
+/// systems; and for an incremental one NoDataset where the file system isn't there, else Exists where the snapshot is, else WrongSource where
+/// the newest snapshot isn't the stream's source, else Modified where the live map isn't that snapshot's and `force` isn't set; else for both
+/// TooMany where there are 65,536 snapshots or the open group is the last one; else NoMemory where memory is refused, or as `Table::rollback`
+/// says (zfs-receive(8), -F; the order and numbers are profile). It costs the number of file systems, the chunks of pieces that are to be freed,
+/// the logarithm of the number of the file system's snapshots, and with `force` the number of them with the segments of their dead lists, and
+/// that of its bookmarks. No block is visited.
 pub fn begin(
     alloc: Global,
     table: &Table,
@@ -97,8 +97,8 @@ fn with_new(table: &Table, freeing: &Freeing, name: &DsName) -> Result<WorkingCo
     Ok(edit)
 }
 
-// The datasets with this file system rolled back to its newest snapshot, or unchanged where it has none. NoMemory where memory is refused, or as
-// `Table::rollback` says. It costs what `begin` does.
+// The datasets with this file system rolled back to its newest snapshot and without the bookmarks that are newer, or unchanged where it has no
+// snapshot. NoMemory where memory is refused, or as `Table::rollback` says. It costs what `begin` does.
 fn forced_back(
     alloc: Global,
     table: &Table,

@@ -25,7 +25,7 @@ use model::names::Names;
 use model::reply::{Reply, Value};
 use model::request::Request;
 use pool::{MOST_BLOCKS, Pool};
-use runner::PoolCaller;
+use runner::{PoolCaller, unserved_laws};
 use script::run::answer_line;
 use script::settings::amount_of;
 use std::alloc::Global;
@@ -429,7 +429,10 @@ impl Host {
                 *refusal = number_of(told);
                 Answer::Done
             }
-            Err(_) => Answer::Refused(Refusal::NoMemory),
+            Err(_) => {
+                unserved_laws();
+                Answer::Refused(Refusal::NoMemory)
+            }
         }
     }
 

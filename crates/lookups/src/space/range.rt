@@ -1,5 +1,5 @@
 //! The blocks that only the snapshots of a range have.
-ghost use Rattle.std.specs.Prelude.{◌≡◌, ◌<◌, ◌≤◌, ◌+◌, ◌^◌, length, OnErr, if◌then◌else◌, Some, None, IfSome, IfOk, IfErr, OnOk, nat_lt};
+ghost use Rattle.std.specs.Prelude.{◌≡◌, ◌<◌, ◌≤◌, ◌+◌, ◌^◌, OnErr, if◌then◌else◌, Some, None, IfSome, IfOk, IfErr, OnOk, nat_lt};
 ghost use Rattle.std.specs.List.{find, list_any};
 ghost use Rattle.std.specs.Option.{option_map};
 ghost use Rattle.std.specs.FinSet.{len};
@@ -10,7 +10,7 @@ ghost use Rattle.world.specs.Tables.{world_of};
 ghost use Rattle.world.specs.Worlds.{AreRising};
 ghost use Rattle.datasets.specs.Origins.{origin_group};
 ghost use Rattle.accounts.specs.Space.{newest_group};
-ghost use Rattle.lookups.specs.Ranges.{IsRange, range_ids, range_refusal, has_clone_between, group_after, older_than};
+ghost use Rattle.lookups.specs.Ranges.{IsRange, range_ids, range_reach, range_refusal, has_clone_between, group_after, older_than};
 
 use base::meter::SegMeter;
 use base::name::{Component, DsName};
@@ -23,7 +23,8 @@ use datasets::{FileSystem, Snapshot, Table};
 /// HasClones exactly where one of the range has a clone (the order is profile). It costs the logarithm of the number of file systems, the number
 /// of this one's snapshots, for each of the range the logarithm of the number of clones, and for each dead list that is read about the square of
 /// the logarithm of its entries. Those are the dead lists of the snapshots of the range except the first, and that of the dataset after the
-/// range; each has one segment and is read once. The first one's isn't read, since its blocks were there before the range.
+/// range; each is read once. The first one's isn't read, since its blocks were there before the range. The meter counts the one segment of each
+/// list that is read, and the entries that its sum looks at.
 pub fn would_free(
     table: &Table,
     name: &DsName,
@@ -36,7 +37,7 @@ pub fn would_free(
     ensures can { OnOk result (range_refusal table.now name.now first.now last.now ≡ None) }
     ensures refused { IfSome (range_refusal table.now name.now first.now last.now) (λ e. result ≡ Err e) }
     ensures only { IfErr result (λ e. range_refusal table.now name.now first.now last.now ≡ Some e) }
-    ensures meter { OnOk result (segments.new ≤ segments.old + length (range_ids table.now name.now first.now last.now)) }
+    ensures meter { OnOk result (segments.new ≤ segments.old + range_reach table.now name.now first.now last.now) }
     ensures unread { OnErr result (segments.new ≡ segments.old) }
     ensures never_lower { segments.old ≤ segments.new }
 {

@@ -20,7 +20,8 @@ use model::snapshot_id::SnapshotId;
 /// target isn't a dataset that is there or there is no such snapshot; else NotAncestor exactly where the snapshot isn't an older one of the
 /// dataset's lineage (the order is profile). It costs the logarithms of the numbers of file systems and of the snapshots of one. For each file
 /// system of the lineage down to the snapshot's it also costs the lookup of its origin, the number of its snapshots, and for each dead list of
-/// these that is of the lineage about the square of the logarithm of its entries; a dead list has one segment and is read once.
+/// these that is of the lineage about the square of the logarithm of its entries; a dead list is read once. The meter counts the one segment of
+/// each list that is read, and the entries that its sum looks at.
 pub fn written_since(
     table: &Table,
     target: &Target,
@@ -91,7 +92,7 @@ fn group_at(dataset: Option<&Snapshot>) -> Option<Group>
 
 // Counts the entries born by the group of the snapshot `since` in the dead lists of the datasets after it up to this one, at most the greatest
 // u64. None where `since`, a snapshot of `owner`, isn't an older one of the dataset's lineage. The walk goes down from the dataset's file system
-// to that of its origin and so on, and costs what `written_since` does.
+// to that of its origin and so on. It costs what `written_since` does, and the meter counts what it does there.
 fn gone_since(
     table: &Table,
     file_system: &FileSystem,

@@ -18,9 +18,10 @@ use std::alloc::Global;
 
 /// How many blocks only the snapshot of this name has, and no other dataset, not even a clone of it (zfsprops(7): used); None where there is no
 /// such snapshot. NoMemory where memory is refused; a snapshot without clones needs no memory. It costs the logarithms of the numbers of file
-/// systems and of the snapshots of one, and the segments of the dead list of the dataset that follows the snapshot. Where the snapshot has
-/// clones, it also costs the entries of that dead list that were born after the dataset before the snapshot, and for each clone the segments and
-/// the entries of the dead list of its oldest dataset.
+/// systems and of the snapshots of one, and about the square of the logarithm of the entries of the dead list of the dataset that follows the
+/// snapshot. Where the snapshot has clones, it also costs the entries of that dead list that were born after the dataset before the snapshot, and
+/// for each clone the entries of the dead list of its oldest dataset. The meter counts the segments of these lists, and the entries that a sum
+/// looks at.
 pub fn used_by_snapshot(
     alloc: Global,
     table: &Table,

@@ -45,7 +45,8 @@ impl<K: Opening> Book<K> {
     /// can be looked up in it. Constant time.
     pub fn give_up(self) -> Closed
         ensures run { IsLegal K.opening (map arc_value result.history.items) result.pool.state }
-        ensures kept { (map arc_value result.history.items ≡ self.history) × (result.pool.state ≡ self.pool) }
+        ensures history { map arc_value result.history.items ≡ self.history }
+        ensures pool { result.pool.state ≡ self.pool }
     {
         let Book {
             pool,

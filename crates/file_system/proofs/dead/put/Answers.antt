@@ -29,8 +29,9 @@ returns-then-few-eq0-clause-dead c =
 -- a longer list comes to its place
 pub returns-clause-dead : goal.returns-clause-dead
 returns-clause-dead c =
-    subst (λ (h : Held). HasGained h.entries (arc_value c.in_ok-longer.longer).entries c.args.draft.released.items c.args.newest.0) c.deref-2.ensures
-    (subst (λ (rs : List Dead). HasGained c.deref-2.result.now.entries (arc_value c.in_ok-longer.longer).entries rs c.args.newest.0) c.deref-3.ensures.value c.in_ok-longer.ensures.ok)
+    subst (λ (h : Held). HasGained (arc_value c.args.dead.now).entries h.entries c.args.draft.released.items c.args.newest.0) (sym c.in_ok-longer-2.ensures.ok)
+    (subst (λ (h : Held). HasGained h.entries c.in_ok-longer.longer.entries c.args.draft.released.items c.args.newest.0) c.deref-2.ensures
+    (subst (λ (rs : List Dead). HasGained c.deref-2.result.now.entries c.in_ok-longer.longer.entries rs c.args.newest.0) c.deref-3.ensures.value c.in_ok-longer.ensures.ok))
 
 -- or the list stays
 pub returns-in_err-changed-clause-dead_err : goal.returns-in_err-changed-clause-dead_err

@@ -28,8 +28,8 @@ use Rattle.tree.specs.Updates.{changes_of}
 use Rattle.file_system.proofs.file_system.FileSystem.apply.Goals as goal
 
 -- the change may be asked for with the blocks young that are
-pub put-requires : goal.put-requires
-put-requires c =
+pub put-requires-clause-can : goal.put-requires-clause-can
+put-requires-clause-can c =
     let young : c.young_from-young.result.0 ≡ max c.args.synced.0 (newest_group (origin_group c.args.self.now.system.origin) c.args.self.now.system.snaps + 1) = c.young_from-young.ensures ∙ ap (λ n. max c.args.synced.0 (n + 1)) c.newest_group-newest.ensures in
     record {
       young = c.young_from-young.result.0;

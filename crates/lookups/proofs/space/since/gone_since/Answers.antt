@@ -30,7 +30,7 @@ returns-then-is_same-clause-some c =
     (snap_id c.in_ok-origin.origin) (sym c.origin.ensures ∙ ap (option_map snap_id) c.in_ok-origin.was) c.gone_upto-rest.result c.gone_upto-rest.ensures.count
     (same_id_is (snap_id c.in_ok-origin.origin) (snap_id c.args.since) (sym c.is_same.ensures ∙ c.if-is_same.true))
     c.saturating_add-gone.result c.saturating_add-gone.ensures
-    (c.gone_upto-rest.new.segments - c.args.segments.now) (let m = c.gone_upto-rest.ensures.once in omega arith)).gone
+    (c.gone_upto-rest.new.segments - c.args.segments.now) (let m = c.gone_upto-rest.ensures.meter in omega arith)).gone
 
 pub returns-then-is_same-clause-meter : goal.returns-then-is_same-clause-meter
 returns-then-is_same-clause-meter c =
@@ -40,7 +40,7 @@ returns-then-is_same-clause-meter c =
     (snap_id c.in_ok-origin.origin) (sym c.origin.ensures ∙ ap (option_map snap_id) c.in_ok-origin.was) c.gone_upto-rest.result c.gone_upto-rest.ensures.count
     (same_id_is (snap_id c.in_ok-origin.origin) (snap_id c.args.since) (sym c.is_same.ensures ∙ c.if-is_same.true))
     c.saturating_add-gone.result c.saturating_add-gone.ensures
-    (c.gone_upto-rest.new.segments - c.args.segments.now) (let m = c.gone_upto-rest.ensures.once in omega arith)).reached
+    (c.gone_upto-rest.new.segments - c.args.segments.now) (let m = c.gone_upto-rest.ensures.meter in omega arith)).reached
 
 pub returns-else-is_same-clause-none : goal.returns-else-is_same-clause-none
 returns-else-is_same-clause-none c =
@@ -77,7 +77,7 @@ lineage-preserved c =
           c.lineage.passed.now (option_map (λ g. g.0) c.lineage.until) c.lineage.gone (c.lineage.segments - c.args.segments.now) c.lineage.invariant.0 (sym (named_is _ c.is_named.ensures c.as_bytes.ensures.value) ∙ c.lineage-test.true)
           (snap_id c.in_ok-origin.origin) (sym c.origin.ensures ∙ ap (option_map snap_id) c.in_ok-origin.was) c.gone_upto-rest.result c.gone_upto-rest.ensures.count
           c.if-origin-group.false c.in_ok-next.next.now c.in_ok-next.field-0-1.now c.in_ok-next.ensures.place.0 c.in_ok-next.ensures.place.1 c.saturating_add-gone.result c.saturating_add-gone.ensures
-          (c.gone_upto-rest.new.segments - c.args.segments.now) (let m = c.gone_upto-rest.ensures.once in omega arith),
+          (c.gone_upto-rest.new.segments - c.args.segments.now) (let m = c.gone_upto-rest.ensures.meter in omega arith),
       omega (arith, c.lineage.invariant.1, c.gone_upto-rest.ensures.never_lower),
     )
 
@@ -94,7 +94,7 @@ returns-clause-some c =
     (found_here c.args.table.now sound (dataset_at c.args.file_system.now (option_copied c.args.dataset)) (snap_id c.args.since) c.args.owner.now c.requires.home
     c.lineage.passed.now (option_map (λ g. g.0) c.lineage.until) c.lineage.gone (c.lineage.segments - c.args.segments.now) c.lineage.invariant.0 (sym (named_is _ c.is_named.ensures c.as_bytes.ensures.value) ∙ c.lineage-test.false)
     (sym c.is_after.ensures ∙ c.if-not-is_after.false) c.gone_upto-rest-2.result c.gone_upto-rest-2.ensures.count c.saturating_add.result c.saturating_add.ensures
-    (c.gone_upto-rest-2.new.segments - c.args.segments.now) (let m = c.gone_upto-rest-2.ensures.once in omega arith)).gone
+    (c.gone_upto-rest-2.new.segments - c.args.segments.now) (let m = c.gone_upto-rest-2.ensures.meter in omega arith)).gone
 
 pub returns-clause-meter : goal.returns-clause-meter
 returns-clause-meter c =
@@ -102,4 +102,4 @@ returns-clause-meter c =
     (found_here c.args.table.now sound (dataset_at c.args.file_system.now (option_copied c.args.dataset)) (snap_id c.args.since) c.args.owner.now c.requires.home
     c.lineage.passed.now (option_map (λ g. g.0) c.lineage.until) c.lineage.gone (c.lineage.segments - c.args.segments.now) c.lineage.invariant.0 (sym (named_is _ c.is_named.ensures c.as_bytes.ensures.value) ∙ c.lineage-test.false)
     (sym c.is_after.ensures ∙ c.if-not-is_after.false) c.gone_upto-rest-2.result c.gone_upto-rest-2.ensures.count c.saturating_add.result c.saturating_add.ensures
-    (c.gone_upto-rest-2.new.segments - c.args.segments.now) (let m = c.gone_upto-rest-2.ensures.once in omega arith)).reached
+    (c.gone_upto-rest-2.new.segments - c.args.segments.now) (let m = c.gone_upto-rest-2.ensures.meter in omega arith)).reached
