@@ -30,7 +30,8 @@ impl<K: Opening> Book<K> {
     pub fn close(self, seats: Vec<Seat<K>>) -> Result<Closed, (Refusal, Book<K>, Vec<Seat<K>>)>
         ensures exact { IsOk result ↔ IsWhole self.seats self.history seats.items }
         ensures run { IfOk result (λ c. IsLegal K.opening (map arc_value c.history.items) c.pool.state) }
-        ensures kept { IfOk result (λ c. (map arc_value c.history.items ≡ self.history) × (c.pool.state ≡ self.pool)) }
+        ensures history { IfOk result (λ c. map arc_value c.history.items ≡ self.history) }
+        ensures pool { IfOk result (λ c. c.pool.state ≡ self.pool) }
         ensures answered { IfOk result (λ c. IsAnswered (map arc_value c.history.items) seats.items) }
         ensures back { IfErr result (λ e. (e.0 ≡ Refusal.Busy) × (e.1 ≡ self) × (e.2 ≡ seats)) }
     {
