@@ -77,18 +77,15 @@ def reply_by_definition(copy):
 
 
 def rows_told(copy):
-    """A row that stands otherwise than plain values tell it; each crate of rows has its own."""
+    """Each script that tells of rows has to see one that stands otherwise."""
     said = ""
-    for crate in ("base_rows", "stream_rows", "ground_rows", "snapshot_rows"):
-        file = copy.root / f"crates/{crate}/stdout"
-        text = file.read_text()
+    for crate, script in (("stream_rows", "ground.py"), ("pool_rows", "pool_rows.py"), ("session_rows", "session_rows.py")):
         copy.edit(f"crates/{crate}/stdout", r"\bok$", "none")
-        status, told = copy.python("bench/ground.py")
-        file.write_text(text)
+        status, told = copy.python(f"bench/{script}")
         if not status:
-            return status, f"{crate}: {told}"
+            return status, told
         said += told
-    return 1, said, "base_rows: stands ", "stream_rows: stands ", "ground_rows: stands ", "snapshot_rows: stands "
+    return 1, said, "stream_rows: stands ", "pool_rows: stands none", "session_rows: stands none"
 
 
 def body_deleted(copy):

@@ -1,5 +1,5 @@
 //! What threads do at once: callers, a caller of batches, readers of views, a syncer and a destroyer, each with a fixed number of turns.
-use crate::rig::{next, one_of, request_at_last};
+use crate::rig::{next, one_of, request_by};
 use base::name::Target;
 use base::refusal::Refusal;
 use base::text::Bytes;
@@ -163,7 +163,7 @@ pub fn call<K: Opening, R: Wait + Abort>(
     kept: &mut Kept,
     line: &str,
 ) {
-    let request = request_at_last(rt, alloc, line);
+    let request = request_by(rt, alloc, line);
     let receipt = session.call(alloc, rt, seat, request);
     kept.keep(rt, receipt.expect(rt, "room"));
 }
@@ -215,7 +215,7 @@ fn requests_of(rt: &impl Abort, alloc: Global, mut seed: u64) -> Vec<Request> {
     let mut requests = Vec::new(alloc);
     for _ in 0..BATCH {
         seed = next(seed);
-        let request = request_at_last(rt, alloc, one_of(LINES, seed));
+        let request = request_by(rt, alloc, one_of(LINES, seed));
         requests.push(request).expect(rt, "memory");
     }
     requests

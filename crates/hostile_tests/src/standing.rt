@@ -1,7 +1,7 @@
 //! A batch that stands at its gate while another seat's call has begun.
 ghost use Rattle.std.specs.Prelude.{◌≡◌};
 
-use crate::rig::request_at_last;
+use crate::rig::request_by;
 use session::{Gate, Opening, Pool, Seat, Session};
 use std::alloc::Global;
 use std::marker::Brand;
@@ -98,7 +98,7 @@ fn batches<K: Opening, R: Wait + Abort>(
 ) -> (Seat<K>, bool) {
     let mut requests = Vec::new(alloc);
     for line in ["write p 0 0 61", "write p 0 1 62", "sync", "list"] {
-        let request = request_at_last(rt, alloc, line);
+        let request = request_by(rt, alloc, line);
         requests.push(request).expect(rt, "memory");
     }
     let mut gate = Standing {
@@ -126,7 +126,7 @@ fn calls<K: Opening, R: Wait + Abort>(
     if !comes_to_be_set(stands) {
         return (seat, None);
     }
-    let request = request_at_last(rt, alloc, "write p 0 0 63");
+    let request = request_by(rt, alloc, "write p 0 0 63");
     has_begun.store(true, Ordering::SeqCst);
     let receipt = session.call(alloc, rt, &mut seat, request);
     let number = receipt.expect(rt, "room").number;

@@ -1,7 +1,6 @@
 //! Everything at once: nine threads, and then the history that they have made together.
 ghost use Rattle.std.specs.Prelude.{◌≡◌};
 
-use crate::blocks::have_same_blocks;
 use crate::players::{Kept, Player, Role, call, play};
 use crate::walked::{are_whole, is_replayed, reads_are_last_writes};
 use session::{Book, Closed, Opening, Pool, Seat, Session};
@@ -10,6 +9,7 @@ use std::marker::Brand;
 use std::process::Abort;
 use std::sync::Wait;
 use std::thread::{Threads, map_vec};
+use telling::blocks::are_alike;
 
 /// How many blocks the pool has.
 const BLOCKS: u32 = 2000;
@@ -89,7 +89,7 @@ fn is_right(rt: &impl Abort, alloc: Global, closed: &Closed, kept: &[Kept]) -> b
     let history = closed.history.as_slice();
     let mut pool = Pool::create(alloc, 1, BLOCKS).expect(rt, "memory");
     let is_led_to = is_replayed(rt, alloc, &mut pool, history, kept)
-        && have_same_blocks(rt, alloc, &closed.pool, &pool);
+        && are_alike(alloc, &closed.pool, &pool) == Ok(true);
     drop(pool);
     is_led_to && are_whole(history, kept) && reads_are_last_writes(history)
 }

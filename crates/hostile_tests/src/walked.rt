@@ -1,6 +1,6 @@
 //! The history of a session, walked once it is closed.
 use crate::players::{Kept, PLACES, SLICE, SLICES, SYNCS, Seen};
-use crate::rig::request_at_last;
+use crate::rig::request_by;
 use base::name::Target;
 use model::entry::Entry;
 use model::reply::Reply;
@@ -194,7 +194,7 @@ fn is_sent(rt: &impl Abort, alloc: Global, pool: &mut Pool, seen: &Seen) -> bool
 }
 
 fn answer(rt: &impl Abort, alloc: Global, pool: &mut Pool, line: String) -> Reply {
-    let request = request_at_last(rt, alloc, line.as_str());
+    let request = request_by(rt, alloc, line.as_str());
     let mut reply = Reply::Done;
     pool.apply(alloc, &request, &mut reply);
     drop(request);

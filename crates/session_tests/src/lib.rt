@@ -1,21 +1,11 @@
-//! Tests of `book` and `session` from outside.
+//! Tests of sessions from outside, of what no row shows: threads, and two sessions that begin alike. `session_rows` has the rows.
 #![tactic(auto)]
 
 #[cfg(test)]
-mod batches;
-#[cfg(test)]
-mod books;
-#[cfg(test)]
-mod calls;
-#[cfg(test)]
-mod memory;
-#[cfg(test)]
 mod rig;
 #[cfg(test)]
-mod sending;
+mod strangers;
 #[cfg(test)]
 mod threads;
 #[cfg(test)]
 mod viewing;
-#[cfg(test)]
-mod workers;

@@ -6,24 +6,14 @@ use base::name::Target;
 use base::refusal::Refusal;
 use model::entry::KeptReply;
 use model::reply::Reply;
-use model::request::{Property, Request};
+use model::request::Request;
 use session::{Book, Opening, Pool, Receipt, Seat, Session};
 use std::alloc::Global;
 use std::process::Abort;
 use std::sync::Wait;
 
 pub fn write_of(alloc: Global, object: u32, block: u32, byte: u8) -> Result<Request, Refusal> {
-    write_to(alloc, b"p", object, block, byte)
-}
-
-pub fn write_to(
-    alloc: Global,
-    name: &[u8],
-    object: u32,
-    block: u32,
-    byte: u8,
-) -> Result<Request, Refusal> {
-    let target = Target::read(alloc, name)?;
+    let target = Target::read(alloc, b"p")?;
     Ok(Request::Write {
         target,
         object,
@@ -38,14 +28,6 @@ pub fn read_of(alloc: Global, object: u32, block: u32) -> Result<Request, Refusa
         target,
         object,
         block,
-    })
-}
-
-pub fn get_of(alloc: Global) -> Result<Request, Refusal> {
-    let target = Target::read(alloc, b"p")?;
-    Ok(Request::Get {
-        target,
-        property: Property::Referenced,
     })
 }
 
@@ -70,15 +52,6 @@ pub fn is_reply(reply: &KeptReply, wanted: Wanted) -> bool {
     let wanted = reply_of(wanted);
     let same = reply.is(&wanted);
     drop(wanted);
-    same
-}
-
-/// Whether a pool by itself answers a request so.
-pub fn is_answered(alloc: Global, pool: &mut Pool, request: &Request, wanted: &Reply) -> bool {
-    let mut reply = Reply::Done;
-    pool.apply(alloc, request, &mut reply);
-    let same = reply.same(wanted);
-    drop(reply);
     same
 }
 
@@ -118,17 +91,6 @@ pub fn runs<K: Opening, R: Wait + Abort>(
     let same = is_receipt(&receipt, number, wanted);
     drop(receipt);
     same
-}
-
-/// Whether a call finds no room.
-pub fn finds_no_room<K: Opening, R: Wait + Abort>(
-    rt: &R,
-    alloc: Global,
-    session: &Session<K>,
-    seat: &mut Seat<K>,
-) -> bool {
-    let request = get_of(alloc).expect(rt, "memory");
-    session.call(alloc, rt, seat, request).err() == Some(Refusal::SessionFull)
 }
 
 /// Whether a book is closed with this seat, and has so many entries.

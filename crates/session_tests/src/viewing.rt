@@ -1,17 +1,13 @@
-//! Views of snapshots, which are read without the session.
+//! Views of snapshots, which threads read without the session.
 ghost use Rattle.std.specs.Prelude.{◌≡◌};
 
-use crate::rig::{
-    Wanted, closes, finds_no_room, is_answered, opened, read_of, runs, seat_of, write_of,
-};
+use crate::rig::{Wanted, closes, opened, runs, seat_of, write_of};
 use base::name::{SnapName, Target};
 use base::refusal::Refusal;
 use model::reply::Reply;
 use model::request::Request;
 use model::snap_names::SnapNames;
-use session::{
-    Book, Closed, ClosedView, Gate, OpenedView, Opening, Pool, Receipt, Seat, Session, Turns, View,
-};
+use session::{ClosedView, Gate, OpenedView, Opening, Pool, Receipt, Seat, Session, View};
 use std::alloc::Global;
 use std::marker::Brand;
 use std::process::Abort;
@@ -19,7 +15,7 @@ use std::sync::Wait;
 use std::sync::atomic::{AtomicBool, Ordering};
 use std::thread::{Threads, join, map_vec, yield_now};
 
-pub fn snapshot_of(alloc: Global, name: &[u8]) -> Result<Request, Refusal> {
+fn snapshot_of(alloc: Global, name: &[u8]) -> Result<Request, Refusal> {
     let name = SnapName::read(alloc, name)?;
     Ok(Request::Snapshot {
         names: SnapNames::from(vec![in alloc; name]?),
@@ -27,18 +23,13 @@ pub fn snapshot_of(alloc: Global, name: &[u8]) -> Result<Request, Refusal> {
     })
 }
 
-pub fn destroy_of(alloc: Global, name: &[u8]) -> Result<Request, Refusal> {
+fn destroy_of(alloc: Global, name: &[u8]) -> Result<Request, Refusal> {
     let target = Target::read(alloc, name)?;
     Ok(Request::Destroy {
         target,
         recursive: false,
         defer: false,
     })
-}
-
-fn view_of(alloc: Global, name: &[u8]) -> Result<Request, Refusal> {
-    let target = Target::read(alloc, name)?;
-    Ok(Request::OpenView { target })
 }
 
 // Writes a block of 97s into p, as the first call of a session. Tells whether it is done.
@@ -85,7 +76,7 @@ fn view<K: Opening, R: Wait + Abort>(
     viewed(opened).expect(rt, "a view")
 }
 
-pub fn viewed<K: Opening>(opened: Result<OpenedView<K>, Refusal>) -> Option<View<K>> {
+fn viewed<K: Opening>(opened: Result<OpenedView<K>, Refusal>) -> Option<View<K>> {
     match opened {
         Ok(OpenedView::Opened(view, receipt)) => {
             drop(receipt);
@@ -120,7 +111,7 @@ fn destroys<K: Opening, R: Wait + Abort>(
 }
 
 // Whether a view is closed by the request with this number.
-pub fn closes_view<K: Opening, R: Wait>(
+fn closes_view<K: Opening, R: Wait>(
     rt: &R,
     alloc: Global,
     session: &Session<K>,
@@ -364,226 +355,4 @@ fn reads_on<K: Opening>(view: &View<K>) -> bool {
         }
     }
     true
-}
-
-// ---- what no view is opened or closed by
-
-#[test]
-fn views_by_themselves(rt: HostRuntime) {
-    let pool = Pool::create(rt.alloc(), 1, 1000).expect(&rt, "memory");
-    opens_and_forgets::<Brand, _>(&rt, rt.alloc(), pool)
-}
-
-// A view is opened by `open_view` alone. One that is forgotten leaves the snapshot busy, until the pool itself closes it.
-fn opens_and_forgets<K: Opening, R: Wait + Abort>(rt: &R, alloc: Global, pool: Pool)
-    requires opening { pool.state ≡ K.opening }
-    requires limit { 6 ≡ K.limit }
-{
-    let session: Session<K> = opened(rt, alloc, pool, 6);
-    let mut seat = seat_of(rt, alloc, &session);
-    let taken = takes_a_snapshot(rt, alloc, &session, &mut seat);
-    let none = runs_nothing(rt, alloc, &session, &mut seat);
-    let refused = is_refused_a_view(rt, alloc, &session, &mut seat);
-    let view = view(rt, alloc, &session, &mut seat);
-    let busy = destroys(
-        rt,
-        alloc,
-        &session,
-        &mut seat,
-        4,
-        Wanted::Refused(Refusal::Busy),
-    );
-    let barred = runs(
-        rt,
-        alloc,
-        &session,
-        &mut seat,
-        Ok(Request::Abandon),
-        5,
-        Wanted::Refused(Refusal::Busy),
-    );
-    let full = finds_no_room(rt, alloc, &session, &mut seat);
-    let kept = is_handed_back(rt, alloc, &session, &mut seat, view);
-    let ended = ends_by_itself(rt, alloc, session.end(), seat);
-    assert!(rt; taken && none && refused && busy && barred && full && kept && ended);
-}
-
-// Whether a call and a batch of requests on views run nothing.
-fn runs_nothing<K: Opening, R: Wait + Abort>(
-    rt: &R,
-    alloc: Global,
-    session: &Session<K>,
-    seat: &mut Seat<K>,
-) -> bool {
-    let open = view_of(alloc, b"p@s").expect(rt, "memory");
-    let opened = session.call(alloc, rt, seat, open).err();
-    let closed = session
-        .call(alloc, rt, seat, Request::CloseView { view: 1 })
-        .err();
-    let read = read_of(alloc, 0, 0).expect(rt, "memory");
-    let batch = vec![in alloc; read, Request::CloseView { view: 1 }].expect(rt, "memory");
-    let batched = session
-        .batch(alloc, rt, seat, batch, &mut Turns::new(9))
-        .err();
-    opened == Some(Refusal::NoView)
-        && closed == Some(Refusal::NoView)
-        && batched == Some(Refusal::NoView)
-}
-
-// Whether a view of what is no snapshot runs, as the call with number 2, and is refused.
-fn is_refused_a_view<K: Opening, R: Wait + Abort>(
-    rt: &R,
-    alloc: Global,
-    session: &Session<K>,
-    seat: &mut Seat<K>,
-) -> bool {
-    let target = Target::read(alloc, b"p").expect(rt, "memory");
-    match session.open_view(alloc, rt, seat, target) {
-        Ok(OpenedView::Refused(receipt)) => {
-            crate::rig::is_receipt(&receipt, 2, Wanted::Refused(Refusal::NotSnapshot))
-        }
-        Ok(OpenedView::Opened(view, receipt)) => {
-            drop(view);
-            drop(receipt);
-            false
-        }
-        Err(_) => false,
-    }
-}
-
-// Whether a full session hands a view back, which still shows its snapshot and is number 1.
-fn is_handed_back<K: Opening, R: Wait>(
-    rt: &R,
-    alloc: Global,
-    session: &Session<K>,
-    seat: &mut Seat<K>,
-    view: View<K>,
-) -> bool {
-    match session.close_view(alloc, rt, seat, view) {
-        ClosedView::NotRun(refusal, view) => {
-            refusal == Refusal::SessionFull && shows_the_snapshot(&view) && view.forget() == 1
-        }
-        ClosedView::Closed(receipt) => {
-            drop(receipt);
-            false
-        }
-        ClosedView::Refused(receipt, view) => {
-            drop(receipt);
-            drop(view);
-            false
-        }
-    }
-}
-
-// Whether the pool itself closes view 1 once the session has ended, and only then destroys its snapshot and goes back to its last synced
-// world.
-fn ends_by_itself<K: Opening>(
-    rt: &impl Abort,
-    alloc: Global,
-    book: Book<K>,
-    seat: Seat<K>,
-) -> bool {
-    let seats = vec![in alloc; seat].expect(rt, "memory");
-    match book.close(seats) {
-        Ok(Closed { mut pool, history }) => {
-            drop(history);
-            closes_and_destroys(rt, alloc, &mut pool)
-        }
-        Err(_) => false,
-    }
-}
-
-fn closes_and_destroys(rt: &impl Abort, alloc: Global, pool: &mut Pool) -> bool {
-    let destroy = destroy_of(alloc, b"p@s").expect(rt, "memory");
-    let busy = Reply::Refused(Refusal::Busy);
-    let same = is_answered(alloc, pool, &destroy, &busy)
-        && is_answered(alloc, pool, &Request::Abandon, &busy)
-        && is_answered(alloc, pool, &Request::CloseView { view: 1 }, &Reply::Done)
-        && is_answered(alloc, pool, &destroy, &Reply::Done)
-        && is_answered(alloc, pool, &Request::Abandon, &Reply::Done);
-    drop(destroy);
-    drop(busy);
-    same
-}
-
-// ---- memory that is refused
-
-#[test]
-fn views_without_memory(rt: HostRuntime) {
-    let Ok(pool) = Pool::create(rt.alloc(), 1, 1000) else {
-        return;
-    };
-    opens_unless_refused::<Brand, _>(&rt, rt.alloc(), pool)
-}
-
-// Run it with each allocation refused in turn: a view is opened and shows its snapshot, or is refused NoMemory; and it is closed, or
-// comes back and shows what it showed.
-fn opens_unless_refused<K: Opening, R: Wait + Abort>(rt: &R, alloc: Global, pool: Pool)
-    requires opening { pool.state ≡ K.opening }
-    requires limit { 20 ≡ K.limit }
-{
-    let Ok(session) = Session::<K>::open(alloc, pool, 20) else {
-        return;
-    };
-    let Ok(mut seat) = session.seat(alloc, rt) else {
-        return;
-    };
-    let asked = asks_unless_refused(rt, alloc, &session, &mut seat, snapshot_of(alloc, b"p@s"));
-    let viewed = views_unless_refused(rt, alloc, &session, &mut seat);
-    assert!(rt; viewed || !asked);
-}
-
-fn asks_unless_refused<K: Opening, R: Wait>(
-    rt: &R,
-    alloc: Global,
-    session: &Session<K>,
-    seat: &mut Seat<K>,
-    request: Result<Request, Refusal>,
-) -> bool {
-    let Ok(request) = request else {
-        return false;
-    };
-    match session.call(alloc, rt, seat, request) {
-        Ok(receipt) => isnt_refused(receipt),
-        Err(_) => false,
-    }
-}
-
-// Whether a view of p@s, which has no block, is opened, or refused for want of memory; and closed, or handed back as it was.
-fn views_unless_refused<K: Opening, R: Wait>(
-    rt: &R,
-    alloc: Global,
-    session: &Session<K>,
-    seat: &mut Seat<K>,
-) -> bool {
-    let Ok(target) = Target::read(alloc, b"p@s") else {
-        return true;
-    };
-    match session.open_view(alloc, rt, seat, target) {
-        Ok(OpenedView::Opened(view, receipt)) => {
-            drop(receipt);
-            let closed = session.close_view(alloc, rt, seat, view);
-            is_closed_or_no_memory(closed)
-        }
-        Ok(OpenedView::Refused(receipt)) => {
-            let wanted = Reply::Refused(Refusal::NoMemory);
-            let same = receipt.entry.reply.is(&wanted);
-            drop(wanted);
-            same
-        }
-        Err(refusal) => refusal == Refusal::NoMemory,
-    }
-}
-
-fn is_closed_or_no_memory<K: Opening>(closed: ClosedView<K>) -> bool {
-    match closed {
-        ClosedView::Closed(receipt) => isnt_refused(receipt),
-        ClosedView::Refused(receipt, view) => {
-            drop(receipt);
-            view.read(0, 0) == Ok(None)
-        }
-        ClosedView::NotRun(refusal, view) => {
-            refusal == Refusal::NoMemory && view.read(0, 0) == Ok(None)
-        }
-    }
 }
