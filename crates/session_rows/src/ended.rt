@@ -180,10 +180,12 @@ impl<K: Opening> BookCaller<'_, K> {
     {
         match enter_call(self.alloc, self.book, self.seat, call) {
             Ok(Entered { receipt, viewed }) => {
+                let is_viewed = viewed.is_some();
+                drop(viewed);
                 let outcome = tell_receipt(self.alloc, &receipt, self.told);
                 drop(receipt);
-                drop(viewed);
-                outcome
+                outcome?;
+                tell(self.told, if is_viewed { " viewed" } else { "" })
             }
             Err(refusal) => tell_refusal(self.alloc, self.told, refusal),
         }

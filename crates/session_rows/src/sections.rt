@@ -71,7 +71,11 @@ fn section<K: Opening + Send + Sync, R: Threads + Wait + Sync>(
     requires other { other.state ≡ K.opening }
     requires limit { limit ≡ K.limit }
 {
-    let mut books = Vec::with_capacity(alloc, 2)?;
+    let Ok(mut books) = Vec::with_capacity(alloc, 2) else {
+        drop(other);
+        drop(pool);
+        return Err(AllocError);
+    };
     match Book::<K>::open(alloc, other, limit) {
         Ok(book) => books.push_reserved(book),
         Err((refusal, other)) => {

@@ -204,11 +204,7 @@ fn tell_receipts(
     Ok(())
 }
 
-fn tell_refusal_and(
-    alloc: Global,
-    refusal: Refusal,
-    told: &mut Vec<u8>,
-) -> Result<(), AllocError> {
+fn tell_refusal_and(alloc: Global, refusal: Refusal, told: &mut Vec<u8>) -> Result<(), AllocError> {
     tell_refusal(alloc, told, refusal)?;
     tell(told, "; ")
 }

@@ -82,10 +82,7 @@ fn tell_one<K: Opening>(sitter: &mut Sitter<K>, told: &mut Vec<u8>) -> Result<()
     Ok(())
 }
 
-fn tell_all<K: Opening>(
-    sitters: &mut [Sitter<K>],
-    told: &mut Vec<u8>,
-) -> Result<(), AllocError> {
+fn tell_all<K: Opening>(sitters: &mut [Sitter<K>], told: &mut Vec<u8>) -> Result<(), AllocError> {
     for sitter in sitters {
         tell_one(sitter, told)?;
     }

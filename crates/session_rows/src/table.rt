@@ -1,13 +1,13 @@
 //! What all who sit at a session share, and what they tell of it.
 use crate::input::placed;
+use base::refusal::Refusal;
 use model::reply::Reply;
 use model::request::Request;
-use base::refusal::Refusal;
+use script::run::Caller;
 use session::{Opening, Receipt, Seat, Session};
 use std::alloc::{AllocError, Global};
 use std::sync::Wait;
 use std::sync::atomic::AtomicBool;
-use script::run::Caller;
 use telling::replies::tell_kept;
 use telling::told::{tell, tell_number, tell_refusal};
 

@@ -85,10 +85,7 @@ impl<K: Opening> Sitter<K> {
         let Ok(target) = Target::read(table.alloc, name.as_bytes()) else {
             return Err(AllocError);
         };
-        let called = match table
-            .session
-            .open_view(table.alloc, table.rt, seat, target)
-        {
+        let called = match table.session.open_view(table.alloc, table.rt, seat, target) {
             Ok(OpenedView::Opened(view, receipt)) => {
                 self.views.push_reserved(view);
                 Ok(receipt)

@@ -44,7 +44,11 @@ pub fn ask<C: Caller>(
 }
 
 /// Asks a line of a caller that tells its reply itself.
-pub fn ask_silently<C: Caller>(alloc: Global, caller: &mut C, line: &str) -> Result<(), AllocError> {
+pub fn ask_silently<C: Caller>(
+    alloc: Global,
+    caller: &mut C,
+    line: &str,
+) -> Result<(), AllocError> {
     let mut reply = Vec::new(alloc);
     match answer_line(alloc, caller, line.as_bytes(), &mut reply) {
         Ok(_) => Ok(()),
