@@ -2,13 +2,13 @@
 use crate::input::{end_line, parted, placed};
 use crate::left;
 use crate::sitter::Sitter;
-use crate::table::tell_receipt;
-use model::reply::Reply;
+use crate::table::tell_called;
+use base::refusal::Refusal;
 use model::request::Request;
-use script::run::Caller;
 use session::{Book, Call, Closed, Entered, Opening, Seat, enter_call};
 use std::alloc::{AllocError, Global};
-use telling::lines::ask_silently;
+use telling::dropped::drop_request;
+use telling::lines::requests_of;
 use telling::told::{tell, tell_number, tell_refusal};
 
 /// Books, of which the last is asked, with all seats, and what was closed, of which the last is asked too.
@@ -22,23 +22,20 @@ pub struct Ended<K: Opening> {
     pub left: Vec<Closed>,
 }
 
-/// Enters calls into a book.
-#[derive(Drop)]
-struct BookCaller<'a, K: Opening> {
+/// Tells what became of a call, and whether it has opened a view.
+fn tell_entered(
     alloc: Global,
-    book: &'a mut Book<K>,
-    seat: &'a mut Seat<K>,
-    told: &'a mut Vec<u8>,
-}
-
-impl<K: Opening> Caller for BookCaller<'_, K> {
-    ghost asks = { λ _ _ _ _. Unit {0} };
-
-    fn ask(&mut self, request: Request, _reply: &mut Reply) -> bool {
-        match Call::new(self.alloc, self.seat, request) {
-            Ok(call) => self.enter(call).is_ok(),
-            Err(refusal) => tell_refusal(self.alloc, self.told, refusal).is_ok(),
+    entered: Result<Entered, Refusal>,
+    told: &mut Vec<u8>,
+) -> Result<(), AllocError> {
+    match entered {
+        Ok(Entered { receipt, viewed }) => {
+            let is_viewed = viewed.is_some();
+            drop(viewed);
+            tell_called(alloc, Ok(receipt), told)?;
+            tell(told, if is_viewed { " viewed" } else { "" })
         }
+        Err(refusal) => tell_refusal(alloc, told, refusal),
     }
 }
 
@@ -102,25 +99,26 @@ impl<K: Opening> Ended<K> {
     /// Enters the call of `SEAT LINE`.
     fn enter(&mut self, rest: &str, told: &mut Vec<u8>) -> Result<(), AllocError> {
         let (place, line) = placed(rest);
-        let (Some(book), Some(sitter)) = (self.books.last_mut(), self.sitters.get_mut(place)) else {
+        let mut requests = requests_of(self.alloc, line)?;
+        let Some(request) = requests.pop() else {
             return tell(told, "none");
         };
-        let Some(seat) = &mut sitter.seat else {
-            return tell(told, "none");
-        };
-        let mut caller = BookCaller {
-            alloc: self.alloc,
-            book,
-            seat,
-            told,
-        };
-        ask_silently(self.alloc, &mut caller, line)
+        match (self.books.last_mut(), self.sitters.get_mut(place)) {
+            (Some(book), Some(sitter)) => {
+                let entered = entered(self.alloc, book, sitter, request);
+                tell_entered(self.alloc, entered, told)
+            }
+            _ => {
+                drop_request(request);
+                tell(told, "none")
+            }
+        }
     }
 
     /// Closes the book with the seats of these numbers.
     fn close(&mut self, numbers: &str, told: &mut Vec<u8>) -> Result<(), AllocError> {
         self.left.reserve(1)?;
-        let given = self.taken(numbers)?;
+        let given = taken(self.alloc, &mut self.sitters, numbers)?;
         let Some(book) = self.books.pop() else {
             drop(given);
             return tell(told, "none");
@@ -132,7 +130,7 @@ impl<K: Opening> Ended<K> {
             }
             Err((refusal, book, given)) => {
                 self.books.push_reserved(book);
-                self.put_back(numbers, given);
+                put_back(&mut self.sitters, numbers, given);
                 tell_refusal(self.alloc, told, refusal)
             }
         }
@@ -148,46 +146,47 @@ impl<K: Opening> Ended<K> {
             None => tell(told, "none"),
         }
     }
-
-    /// The seats of these numbers, in their order.
-    fn taken(&mut self, numbers: &str) -> Result<Vec<Seat<K>>, AllocError> {
-        let mut given = Vec::new(self.alloc);
-        for word in numbers.split(' ') {
-            given.reserve(1)?;
-            if let Some(sitter) = self.sitters.get_mut(placed(word).0)
-                && let Some(seat) = sitter.seat.take()
-            {
-                given.push_reserved(seat);
-            }
-        }
-        Ok(given)
-    }
-
-    /// Puts seats back under the numbers by which they were taken.
-    fn put_back(&mut self, numbers: &str, given: Vec<Seat<K>>) {
-        for (seat, word) in given.into_iter().zip(numbers.split(' ')) {
-            match self.sitters.get_mut(placed(word).0) {
-                Some(sitter) => sitter.seat = Some(seat),
-                None => drop(seat),
-            }
-        }
-    }
 }
 
-impl<K: Opening> BookCaller<'_, K> {
-    fn enter(&mut self, call: Call) -> Result<(), AllocError>
-        requires own { call.seat ≡ self.old.seat.now.number }
-    {
-        match enter_call(self.alloc, self.book, self.seat, call) {
-            Ok(Entered { receipt, viewed }) => {
-                let is_viewed = viewed.is_some();
-                drop(viewed);
-                let outcome = tell_receipt(self.alloc, &receipt, self.told);
-                drop(receipt);
-                outcome?;
-                tell(self.told, if is_viewed { " viewed" } else { "" })
-            }
-            Err(refusal) => tell_refusal(self.alloc, self.told, refusal),
+/// Enters a call of a seat; NoView where the seat was handed on.
+fn entered<K: Opening>(
+    alloc: Global,
+    book: &mut Book<K>,
+    sitter: &mut Sitter<K>,
+    request: Request,
+) -> Result<Entered, Refusal> {
+    let Some(seat) = &mut sitter.seat else {
+        drop_request(request);
+        return Err(Refusal::NoView);
+    };
+    let call = Call::new(alloc, seat, request)?;
+    enter_call(alloc, book, seat, call)
+}
+
+/// The seats of these numbers, in their order.
+fn taken<K: Opening>(
+    alloc: Global,
+    sitters: &mut [Sitter<K>],
+    numbers: &str,
+) -> Result<Vec<Seat<K>>, AllocError> {
+    let mut given = Vec::new(alloc);
+    for word in numbers.split(' ') {
+        given.reserve(1)?;
+        if let Some(sitter) = sitters.get_mut(placed(word).0)
+            && let Some(seat) = sitter.seat.take()
+        {
+            given.push_reserved(seat);
+        }
+    }
+    Ok(given)
+}
+
+/// Puts seats back under the numbers by which they were taken.
+fn put_back<K: Opening>(sitters: &mut [Sitter<K>], numbers: &str, given: Vec<Seat<K>>) {
+    for (seat, word) in given.into_iter().zip(numbers.split(' ')) {
+        match sitters.get_mut(placed(word).0) {
+            Some(sitter) => sitter.seat = Some(seat),
+            None => drop(seat),
         }
     }
 }

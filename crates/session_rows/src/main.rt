@@ -43,7 +43,7 @@ mod sections;
 mod sitter;
 mod sitting;
 mod table;
-mod views;
+mod viewing;
 
 use input::Rows;
 use std::io;

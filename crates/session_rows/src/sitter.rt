@@ -1,14 +1,15 @@
 //! Who sits at a session: a seat, the views that it has opened, and what its rows tell.
 use crate::gates::{Standing, comes_to_be_set, turns_left};
 use crate::input::{end_line, numbered, parted};
-use crate::table::{SeatCaller, Table, tell_receipt};
-use crate::views::look_at;
+use crate::table::{Table, tell_called, tell_receipt};
+use crate::viewing::look_at;
 use base::refusal::Refusal;
 use session::{Gate, Opening, Receipt, Seat, Turns, View};
 use std::alloc::{AllocError, Global};
 use std::sync::Wait;
 use std::sync::atomic::Ordering;
-use telling::lines::{ask_silently, requests_of};
+use telling::dropped::drop_request;
+use telling::lines::requests_of;
 use telling::told::{tell, tell_number, tell_refusal, tell_whether};
 
 /// A seat, which may have been handed on, and its views.
@@ -93,15 +94,16 @@ impl<K: Opening> Sitter<K> {
     }
 
     fn call<R: Wait>(&mut self, table: &Table<K, R>, line: &str) -> Result<(), AllocError> {
-        let Some(seat) = &mut self.seat else {
+        let mut requests = requests_of(table.alloc, line)?;
+        let Some(request) = requests.pop() else {
             return tell(&mut self.told, "none");
         };
-        let mut caller = SeatCaller {
-            table,
-            seat,
-            told: &mut self.told,
+        let Some(seat) = &mut self.seat else {
+            drop_request(request);
+            return tell(&mut self.told, "none");
         };
-        ask_silently(table.alloc, &mut caller, line)
+        let called = table.session.call(table.alloc, table.rt, seat, request);
+        tell_called(table.alloc, called, &mut self.told)
     }
 
     /// A batch of `TURNS LINE; LINE`.

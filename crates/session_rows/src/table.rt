@@ -1,10 +1,7 @@
 //! What all who sit at a session share, and what they tell of it.
 use crate::input::placed;
 use base::refusal::Refusal;
-use model::reply::Reply;
-use model::request::Request;
-use script::run::Caller;
-use session::{Opening, Receipt, Seat, Session};
+use session::{Opening, Receipt, Session};
 use std::alloc::{AllocError, Global};
 use std::sync::Wait;
 use std::sync::atomic::AtomicBool;
@@ -52,25 +49,5 @@ pub fn tell_called(
             outcome
         }
         Err(refusal) => tell_refusal(alloc, told, refusal),
-    }
-}
-
-/// Calls a session by a seat.
-#[derive(Drop)]
-pub struct SeatCaller<'a, 't, K: Opening, R: Wait> {
-    pub table: &'a Table<'t, K, R>,
-    pub seat: &'a mut Seat<K>,
-    pub told: &'a mut Vec<u8>,
-}
-
-impl<K: Opening, R: Wait> Caller for SeatCaller<'_, '_, K, R> {
-    ghost asks = { λ _ _ _ _. Unit {0} };
-
-    fn ask(&mut self, request: Request, _reply: &mut Reply) -> bool {
-        let table = self.table;
-        let called = table
-            .session
-            .call(table.alloc, table.rt, self.seat, request);
-        tell_called(table.alloc, called, self.told).is_ok()
     }
 }
