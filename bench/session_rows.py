@@ -335,7 +335,7 @@ class Walk:
                 lines = lines.split("; ")
                 if len(parts) - 1 != min(len(lines), int(turns) + 1):
                     raise ValueError(f"{len(parts) - 1} of {len(lines)} requests ran at {turns} turns")
-                self.pending[seat].extend(zip(lines, parts))
+                self.pending[seat].extend(zip(lines, parts[:-1]))
             elif word in ("sync", "free"):
                 count, line = (rest, "sync") if word == "sync" else (rest.split(" ")[1], f"slice {rest.split(' ')[0]}")
                 if told != count:
