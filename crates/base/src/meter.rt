@@ -46,8 +46,8 @@ impl Meter {
     }
 }
 
-/// Counts the segments of dead lists that were reached. The count stops at the greatest u64. Making a meter takes a [`Toll`], and a meter cannot
-/// be copied.
+/// Counts the segments of dead lists that were reached, and the entries that a sum looked at in them. The count stops at the greatest u64. Making
+/// a meter takes a [`Toll`], and a meter cannot be copied.
 #[derive(Drop, Debug)]
 pub struct SegMeter {
     segments: u64,
@@ -71,7 +71,7 @@ impl SegMeter {
         SegMeter { segments: 0 }
     }
 
-    /// How many segments it has counted.
+    /// How many segments and entries it has counted.
     pub fn count(&self) -> u64
         ensures { result ≡ self.now }
     {

@@ -320,8 +320,8 @@ impl Deadlist {
 
     /// How many entries were born after the cut, which is their space in blocks. It adds the segments' sizes; where the list doesn't have this
     /// cut, it also counts in the segment that the cut divides. The meter counts the segments that end after the cut, and each entry that the
-    /// sum looks at. Where some entries were born by the cut and some after it, those are some in each run of the divided segment, and the
-    /// waiting entries; else there are none.
+    /// sum looks at: some in each run of the divided segment, and the waiting entries. It looks at none where the list's bounds of births show
+    /// that all entries were born on one side of the cut.
     pub fn space_after(&self, cut: Group, meter: &mut SegMeter) -> u64
         ensures space { result ≡ length (filter (is_after cut.0) self.now.entries) }
         ensures reached { counted meter.old (reached_after cut.0 self.now.cuts) ≤ meter.new }
@@ -352,8 +352,8 @@ impl Deadlist {
 
     /// How many entries were born by the cut, which is their space in blocks. It adds the segments' sizes; where the list doesn't have this cut,
     /// it also counts in the segment that the cut divides. The meter counts the segments that end at the cut or before it and the divided one,
-    /// and each entry that the sum looks at. Where some entries were born by the cut and some after it, those are some in each run of the divided
-    /// segment, and the waiting entries; else there are none.
+    /// and each entry that the sum looks at: some in each run of the divided segment, and the waiting entries. It looks at none where the list's
+    /// bounds of births show that all entries were born on one side of the cut.
     pub fn space_upto(&self, cut: Group, meter: &mut SegMeter) -> u64
         ensures space { result ≡ length (filter (is_upto cut.0) self.now.entries) }
         ensures reached { counted meter.old (reached_upto cut.0 self.now.cuts) ≤ meter.new }

@@ -246,12 +246,12 @@ pub enum Request {
     },
     /// Receives a stream as a snapshot of this name, with the sender's guid (zfs-receive(8)). A full stream goes into a new file system. An
     /// incremental one goes into the file system whose newest snapshot is its source; with `force` (-F) the file system is rolled back to that
-    /// snapshot first. The reply is Done. It is refused with BadStream where the bytes are not a stream. A full stream is then refused with
-    /// Exists where the file system exists, NoParent where its parent doesn't. An incremental one is refused with NoDataset where the file
-    /// system doesn't exist, Exists where the snapshot does, WrongSource where the newest snapshot isn't the source, Modified where the live map
-    /// isn't that snapshot's and `force` isn't set. Then follow TooMany where there are 1,024 file systems and one is new, 65,536 snapshots, or
-    /// the open group is the last one, and then Quota, RefQuota or NoSpace as a write is. The refusal is the first of these that applies, or
-    /// NoMemory.
+    /// snapshot first, and its bookmarks of a later group go. The reply is Done. It is refused with BadStream where the bytes are not a stream. A
+    /// full stream is then refused with Exists where the file system exists, NoParent where its parent doesn't. An incremental one is refused with
+    /// NoDataset where the file system doesn't exist, Exists where the snapshot does, WrongSource where the newest snapshot isn't the source,
+    /// Modified where the live map isn't that snapshot's and `force` isn't set. Then follow TooMany where there are 1,024 file systems and one is
+    /// new, 65,536 snapshots, or the open group is the last one, and then Quota, RefQuota or NoSpace as a write is. The refusal is the first of these
+    /// that applies, or NoMemory.
     Receive {
         snapshot: SnapName,
         bytes: Bytes,

@@ -10,7 +10,7 @@
 //! | `for 1 to 256: hold t{} p@s => ok` | the row for each of these numbers, which stand for `{}` |
 //! | `step write p 0 0 61`, `ask list` | the case's walks may take the one line, and ask the other |
 //! | `walk 7 500` | 500 of its steps are taken, by numbers from 7 on: after each `abandon` that is done its questions are answered as they were after the last `sync` |
-//! | `meters 6 36 3` | the row above reached 6 nodes of trees at least and 36 at most, and 3 segments of dead lists at most |
+//! | `meters 6 36 3` | the row above reached 6 nodes of trees at least and 36 at most, and 3 segments and entries of dead lists at most |
 //!
 //! In a row `{0x7f}` stands for that byte. Each case is asked of one pool by `apply`, and of another by `prepare` and then `commit`. Of a case
 //! that is wrong the first wrong row is printed: the line, what came, and what was wanted. The last line says how many cases and lines agree.
