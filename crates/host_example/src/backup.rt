@@ -1,7 +1,7 @@
 //! A send from one pool received by another.
 use crate::asking::{ask, is_done, is_full_of, snapshot, write};
 use std::alloc::Global;
-use yuzgont::{Bytes, Pool, Refusal, Reply, Request, SnapName, Target};
+use yuzgont::{Bytes, Pool, Receiving, Refusal, Reply, Request, SnapName, Target};
 
 /// Whether a snapshot of one pool is there in another.
 pub fn is_received(alloc: Global) -> Result<bool, Refusal> {
@@ -41,7 +41,7 @@ fn has_received(alloc: Global, backup: &mut Pool, bytes: Bytes) -> Result<bool, 
     let receive = Request::Receive {
         snapshot: SnapName::read(alloc, b"p/copy@monday")?,
         bytes,
-        force: false,
+        mode: Receiving::Plain,
     };
     Ok(is_done(alloc, backup, receive) && is_full_of(alloc, backup, b"p/copy@monday", 97)?)
 }

@@ -4,6 +4,7 @@ use crate::streams::push_named;
 use base::name::{SnapName, Target};
 use base::refusal::Refusal;
 use base::text::Bytes;
+use model::receiving::Receiving;
 use model::reply::{Reply, Value};
 use model::request::Request;
 use pool::Pool;
@@ -24,7 +25,7 @@ fn reply_to(alloc: Global, pool: &mut Pool, name: &[u8], bytes: &[u8]) -> Result
     let request = Request::Receive {
         snapshot: SnapName::read(alloc, name)?,
         bytes: Bytes::from(copied(alloc, bytes)?),
-        force: false,
+        mode: Receiving::Plain,
     };
     let mut reply = Reply::Done;
     pool.apply(alloc, &request, &mut reply);

@@ -10,6 +10,8 @@ mod image_walks;
 #[cfg(test)]
 mod pools;
 #[cfg(test)]
+mod receivings;
+#[cfg(test)]
 mod scripts;
 #[cfg(test)]
 mod settings;

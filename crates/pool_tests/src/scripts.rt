@@ -65,9 +65,9 @@ type Leaves = Vec<(u32, [u8; 512])>;
 
 /// A pool that answers lines.
 #[derive(Drop)]
-struct ScriptedPool {
-    alloc: Global,
-    pool: Pool,
+pub struct ScriptedPool {
+    pub alloc: Global,
+    pub pool: Pool,
 }
 
 impl Caller for ScriptedPool {
@@ -159,7 +159,7 @@ fn is_walked(alloc: Global, pool: &mut Pool, dataset: &DatasetRoot) -> bool {
 }
 
 /// Whether each is.
-fn are_walked(alloc: Global, pool: &mut Pool) -> bool {
+pub fn are_walked(alloc: Global, pool: &mut Pool) -> bool {
     let Ok(roots) = pool.roots(alloc, false) else {
         return false;
     };

@@ -3,6 +3,8 @@ use Rattle.std.specs.Prelude.{ℕ, Bool, List, [], ◌∷◌, Option, None, Some
 use Rattle.std.specs.Option.{option_map, option_and_then}
 use Rattle.base.specs.Reading.{name_of, component_of, tag_of, snap_of, mark_of, target_of}
 use Rattle.model.specs.declared.limits.Limit.{Limit}
+use Rattle.model.specs.declared.receiving.Receiving.{Receiving}
+use Rattle.model.specs.declared.receiving.Receiving.TheVariants.{Plain, Back, Past, Origin, Replace}
 use Rattle.model.specs.declared.request.Property.{Property}
 use Rattle.model.specs.declared.request.PoolProperty.{PoolProperty}
 use Rattle.model.specs.declared.request.Request.{Request}
@@ -89,9 +91,13 @@ abbrev pub asked_send_from : List ℕ → List ℕ → Option Request
 asked_send_from name [] = option_map (λ target. Send target None) (target_of name)
 asked_send_from name (b ∷ bs) = option_and_then (λ source. option_map (λ target. Send target (Some source)) (target_of name)) (target_of (b ∷ bs))
 
--- a receive (zfs-receive(8))
-abbrev pub asked_receive : List ℕ → List ℕ → Bool → Option Request
-asked_receive name bytes force = option_map (λ snapshot. Receive snapshot bytes force) (snap_of name)
+-- the mode of a receive of a number, if there is one; that of a clone has its origin's name, if it is one (zfs-receive(8); numbers are profile)
+abbrev pub mode_at : ℕ → List ℕ → Option (Option Receiving)
+mode_at number origin = slice_get (Some Plain ∷ Some Back ∷ Some Past ∷ option_map Origin (snap_of origin) ∷ Some Replace ∷ []) number
+
+-- a receive in a mode (zfs-receive(8))
+abbrev pub asked_receive : List ℕ → List ℕ → Option Receiving → Option Request
+asked_receive name bytes mode = option_and_then (λ m. option_map (λ snapshot. Receive snapshot bytes m) (snap_of name)) mode
 
 -- the property of a number, if there is one (profile)
 abbrev pub property_at : ℕ → Option Property

@@ -3,6 +3,7 @@ use Rattle.std.specs.Prelude.{◌≡◌, ◌⊎◌, ℕ, ◌==◌, ◌<◌, ◌�
 use Rattle.base.specs.Refusals.{number_of}
 use Rattle.base.specs.declared.refusal.Refusal.{Refusal}
 use Rattle.base.specs.declared.refusal.Refusal.TheVariants.{BadName, TooMany, NoMemory}
+use Rattle.model.specs.declared.receiving.Receiving.{Receiving}
 use Rattle.model.specs.declared.request.Request.{Request}
 use Rattle.model.specs.declared.request.Request.TheVariants.{Sync, Slice, PoolGet}
 use Rattle.model.specs.declared.limits.Limit.{Limit}
@@ -21,7 +22,7 @@ use Rattle.yuzgont_c.specs.declared.host.Host.{Host}
 use Rattle.yuzgont_c.specs.declared.answer.Answer.{Answer}
 use Rattle.yuzgont_c.specs.declared.answer.Answer.TheVariants.{Done, Refused, NoPool, HasPool, BadLength, NoProperty, BadAmount, NoEntry}
 use Rattle.yuzgont_c.specs.Answers.{answer_of, got_answer, number_in, group_in, count_in, view_in, names_in, stream_in}
-use Rattle.yuzgont_c.specs.Asking.{asked_write, asked_read, asked_get, asked_set, asked_open_view, asked_send_from}
+use Rattle.yuzgont_c.specs.Asking.{asked_write, asked_read, asked_get, asked_set, asked_open_view, asked_receive, asked_send_from}
 use Rattle.yuzgont_c.specs.Pieces.{IsPiece}
 
 -- a request that was asked, if its names are some: the reply, of which more is said, is that of the pool's step; or memory was wanting before
@@ -80,6 +81,11 @@ abbrev pub SetsOf : List ℕ → Option Limit → Option (Option ℕ) → Host �
 SetsOf name None amount h answer k = Idle NoProperty h answer k
 SetsOf name (Some limit) None h answer k = Idle BadAmount h answer k
 SetsOf name (Some limit) (Some amount) h answer k = Does (asked_set name limit amount) h answer k
+
+-- a receive in a mode, if there is one of that number (profile)
+abbrev pub ReceivesOf : List ℕ → List ℕ → Option (Option Receiving) → Host → Answer → Host → Type 0
+ReceivesOf name bytes None h answer k = Idle NoProperty h answer k
+ReceivesOf name bytes (Some mode) h answer k = Does (asked_receive name bytes mode) h answer k
 
 -- a view that is opened, and its number (profile)
 abbrev pub OpensView : List ℕ → ℕ → ℕ → Host → Answer → Host → Type 0

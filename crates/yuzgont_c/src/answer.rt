@@ -18,7 +18,7 @@ pub enum Answer {
     HasPool,
     /// A block isn't 512 bytes: -4.
     BadLength,
-    /// No property or limit has this number: -5.
+    /// No property, limit or mode of a receive has this number: -5.
     NoProperty,
     /// This kind of dataset has no such property: -6.
     NotApplicable,

@@ -1,8 +1,10 @@
 //! The requests of the calls that take no script line. Each reads its names: BadName where the bytes aren't such a name, NoMemory where the
 //! request can't be allocated.
-ghost use Rattle.std.specs.Prelude.{◌≡◌};
-ghost use Rattle.base.specs.Reading.{Reads};
-ghost use Rattle.yuzgont_c.specs.Asking.{asked_write, asked_punch, asked_read, asked_snapshot, asked_get, asked_send_from, asked_receive, property_at};
+ghost use Rattle.std.specs.Prelude.{◌≡◌, ◌↔◌, Option, Some, None, IfSome};
+ghost use Rattle.std.specs.Option.{option_map};
+ghost use Rattle.base.specs.Reading.{Reads, snap_of};
+ghost use Rattle.model.specs.declared.receiving.Receiving.{Receiving};
+ghost use Rattle.yuzgont_c.specs.Asking.{asked_write, asked_punch, asked_read, asked_snapshot, asked_get, asked_send_from, asked_receive, mode_at, property_at};
 ghost use Rattle.yuzgont_c.specs.Asking.{asked_create, asked_free_object, asked_rollback, asked_destroy, asked_clone, asked_promote, asked_open_view};
 ghost use Rattle.yuzgont_c.specs.Asking.{asked_hold, asked_release, asked_holds, asked_bookmark, asked_written_since, asked_would_free, asked_set};
 ghost use Rattle.yuzgont_c.specs.Asking.{pool_property_at, limit_at};
@@ -13,6 +15,7 @@ use base::name::{Component, DsName, MarkName, SnapName, Tag, Target};
 use base::refusal::Refusal;
 use base::text::Bytes;
 use model::limits::Limit;
+use model::receiving::Receiving;
 use model::request::{PoolProperty, Property, Request};
 use model::snap_names::SnapNames;
 use std::alloc::Global;
@@ -288,22 +291,51 @@ pub(crate) fn ask_send(alloc: Global, name: &[u8], from: &[u8]) -> Result<Reques
     Ok(Request::Send { target, from })
 }
 
-// Receives a stream.
+// Receives a stream, in a mode that was read.
 pub(crate) fn ask_receive(
     alloc: Global,
     name: &[u8],
     bytes: &[u8],
-    force: bool,
+    mode: Result<Receiving, Refusal>,
 ) -> Result<Request, Refusal>
-    ensures { Reads result (asked_receive name.now bytes.now force) }
+    ensures { (read : Option Receiving) → Reads mode read → Reads result (asked_receive name.now bytes.now read) }
 {
+    let mode = mode?;
     let snapshot = SnapName::read(alloc, name)?;
     let bytes = Bytes::from(bytes.to_vec(alloc)?);
     Ok(Request::Receive {
         snapshot,
         bytes,
-        force,
+        mode,
     })
+}
+
+// The mode of a receive with this number in C, if there is one. `enum yuz_receiving` of the header names the numbers. The mode of a clone reads
+// the name of its origin.
+pub(crate) fn mode_of(
+    alloc: Global,
+    number: u32,
+    origin: &[u8],
+) -> Option<Result<Receiving, Refusal>>
+    ensures none { (result ≡ None) ↔ (mode_at number origin.now ≡ None) }
+    ensures some { (read : Option Receiving) → mode_at number origin.now ≡ Some read → IfSome result (λ mode. Reads mode read) }
+{
+    match number {
+        0 => Some(Ok(Receiving::Plain)),
+        1 => Some(Ok(Receiving::Back)),
+        2 => Some(Ok(Receiving::Past)),
+        3 => Some(origin_of(alloc, origin)),
+        4 => Some(Ok(Receiving::Replace)),
+        _ => None,
+    }
+}
+
+// A receive as a clone of the snapshot of this name.
+fn origin_of(alloc: Global, name: &[u8]) -> Result<Receiving, Refusal>
+    ensures { Reads result (option_map Receiving.Origin (snap_of name.now)) }
+{
+    let origin = SnapName::read(alloc, name)?;
+    Ok(Receiving::Origin(origin))
 }
 
 // The property with this number in C.

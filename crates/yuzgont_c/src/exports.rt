@@ -2,9 +2,9 @@
 ghost use Rattle.std.specs.Prelude.{◌≡◌, Some, None, IfOk, IfErr};
 ghost use Rattle.yuzgont_c.specs.Answers.{Codes};
 ghost use Rattle.yuzgont_c.specs.Asking.{asked_create, asked_clone, asked_destroy, asked_promote, asked_rollback, asked_snapshot, asked_bookmark, asked_hold, asked_release, asked_holds};
-ghost use Rattle.yuzgont_c.specs.Asking.{asked_punch, asked_free_object, asked_written_since, asked_would_free, asked_receive, property_at, pool_property_at, limit_at};
+ghost use Rattle.yuzgont_c.specs.Asking.{asked_punch, asked_free_object, asked_written_since, asked_would_free, mode_at, property_at, pool_property_at, limit_at};
 ghost use Rattle.script.specs.Words.{amount_of_bytes};
-ghost use Rattle.yuzgont_c.specs.Calls.{Calls, Creates, IsFresh, CanBe, CreateRefused, Does, Writes, ReadsBlock, TellsNumber, GetsOf, PoolGetsOf, SetsOf, Syncs, Slices, OpensView, Lists, NamesPiece, Sends, Answers, RepliesPiece, StreamsPiece, Forgotten};
+ghost use Rattle.yuzgont_c.specs.Calls.{Calls, Creates, IsFresh, CanBe, CreateRefused, Does, Writes, ReadsBlock, TellsNumber, GetsOf, PoolGetsOf, SetsOf, ReceivesOf, Syncs, Slices, OpensView, Lists, NamesPiece, Sends, Answers, RepliesPiece, StreamsPiece, Forgotten};
 ghost use Rattle.model.specs.declared.request.Request.TheVariants.{Abandon, CloseView, List};
 
 use crate::answer::Answer;
@@ -239,11 +239,12 @@ pub extern "C" fn yuzgont_receive(
     pool: &mut YuzPool,
     name: &[u8],
     bytes: &[u8],
-    force: bool,
+    mode: u32,
+    origin: &[u8],
 ) -> i32
-    ensures { Codes result (λ answer. Calls (Does (asked_receive name.now bytes.now force)) pool.old.slot.host answer pool.new.slot.host) }
+    ensures { Codes result (λ answer. Calls (ReceivesOf name.now bytes.now (mode_at mode origin.now)) pool.old.slot.host answer pool.new.slot.host) }
 {
-    on_host!(alloc, pool, |host| host.receive(name, bytes, force))
+    on_host!(alloc, pool, |host| host.receive(name, bytes, mode, origin))
 }
 
 /// Frees the last reply, stream and list, as `Host::forget`.

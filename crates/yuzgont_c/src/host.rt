@@ -3,9 +3,9 @@ ghost use Rattle.std.specs.Prelude.{◌≡◌, Option, Some, IfOk, IfErr, length
 ghost use Rattle.model.specs.Step.{Step};
 ghost use Rattle.yuzgont_c.specs.Answers.{answer_of, number_in, view_in, names_in, stream_in};
 ghost use Rattle.yuzgont_c.specs.Asking.{asked_create, asked_clone, asked_destroy, asked_promote, asked_rollback, asked_snapshot, asked_bookmark, asked_hold, asked_release, asked_holds};
-ghost use Rattle.yuzgont_c.specs.Asking.{asked_punch, asked_free_object, asked_written_since, asked_would_free, asked_receive, property_at, pool_property_at, limit_at};
+ghost use Rattle.yuzgont_c.specs.Asking.{asked_punch, asked_free_object, asked_written_since, asked_would_free, mode_at, property_at, pool_property_at, limit_at};
 ghost use Rattle.script.specs.Words.{amount_of_bytes};
-ghost use Rattle.yuzgont_c.specs.Calls.{Does, Asks, KeepsResults, Writes, ReadsBlock, ReadInto, TellsNumber, GetsOf, PoolGetsOf, SetsOf, Syncs, Slices, OpensView, Lists, NamesPiece, Sends, Answers, number_told, Forgotten, IsFresh, CanBe, CreateRefused};
+ghost use Rattle.yuzgont_c.specs.Calls.{Does, Asks, KeepsResults, Writes, ReadsBlock, ReadInto, TellsNumber, GetsOf, PoolGetsOf, SetsOf, ReceivesOf, Syncs, Slices, OpensView, Lists, NamesPiece, Sends, Answers, number_told, Forgotten, IsFresh, CanBe, CreateRefused};
 ghost use Rattle.yuzgont_c.specs.Pieces.{IsPiece};
 ghost use Rattle.base.specs.Reading.{Reads};
 ghost use Rattle.model.specs.declared.request.Request.{Request};
@@ -16,7 +16,7 @@ use crate::asking::{
     ask_bookmark, ask_clone, ask_create, ask_destroy, ask_free_object, ask_get, ask_hold,
     ask_holds, ask_open_view, ask_promote, ask_punch, ask_read, ask_receive, ask_release,
     ask_rollback, ask_send, ask_set, ask_snapshot, ask_would_free, ask_write, ask_written_since,
-    limit_of, pool_property_of, property_of,
+    limit_of, mode_of, pool_property_of, property_of,
 };
 use crate::pieces::copy_piece;
 use base::refusal::Refusal;
@@ -408,12 +408,16 @@ impl Host {
         }
     }
 
-    /// Receives a stream as a snapshot, as `Request::Receive`.
-    pub fn receive(&mut self, name: &[u8], bytes: &[u8], force: bool) -> Answer
-        ensures { Does (asked_receive name.now bytes.now force) self.old result self.new }
+    /// Receives a stream as a snapshot, as `Request::Receive`, in a mode of this number; NoProperty where there is none. One as a clone reads
+    /// the name of its origin, and every other leaves that unread.
+    pub fn receive(&mut self, name: &[u8], bytes: &[u8], mode: u32, origin: &[u8]) -> Answer
+        ensures { ReceivesOf name.now bytes.now (mode_at mode origin.now) self.old result self.new }
     {
-        let request = ask_receive(self.caller.alloc, name, bytes, force);
-        self.tell(request)
+        let alloc = self.caller.alloc;
+        let Some(mode) = mode_of(alloc, mode, origin) else {
+            return Answer::NoProperty;
+        };
+        self.tell(ask_receive(alloc, name, bytes, mode))
     }
 
     /// Answers a line, as `answer_line`, and writes to `refusal` the number of the refusal where the line was refused, or 0. The reply replaces

@@ -24,6 +24,51 @@ pub enum PoolProperty {
     Group = 5,
 }
 
+/// What a receive begins with ([`Pool::receive`]).
+#[derive(Clone, Copy, PartialEq, Eq, Debug)]
+pub enum Receiving<'a> {
+    /// A stream in full makes a new file system; one from a source needs one that hasn't left the source.
+    Plain,
+    /// The file system goes back to its newest snapshot first.
+    Back,
+    /// It goes back to the stream's source: newer snapshots and bookmarks go.
+    Past,
+    /// A stream from the snapshot of this name makes a new file system, which is a clone of it.
+    Origin(&'a str),
+    /// A stream in full takes the place of a file system that is there: its contents, snapshots and bookmarks go.
+    Replace,
+}
+
+impl<'a> Receiving<'a> {
+    pub(crate) fn number(self) -> u32 {
+        match self {
+            Receiving::Plain => 0,
+            Receiving::Back => 1,
+            Receiving::Past => 2,
+            Receiving::Origin(_) => 3,
+            Receiving::Replace => 4,
+        }
+    }
+
+    pub(crate) fn origin(self) -> &'a str {
+        match self {
+            Receiving::Origin(name) => name,
+            _ => "",
+        }
+    }
+}
+
+/// Back by force, or not.
+impl From<bool> for Receiving<'_> {
+    fn from(force: bool) -> Self {
+        if force {
+            Receiving::Back
+        } else {
+            Receiving::Plain
+        }
+    }
+}
+
 /// What a name of a list is of.
 #[derive(Clone, Copy, PartialEq, Eq, Debug)]
 pub enum Kind {

@@ -2,7 +2,7 @@ use Rattle.std.proofs.Common.{sym, ap, ◌∙◌}
 use Rattle.std.specs.Option.{option_map, option_copied}
 use Rattle.snapshots.specs.declared.kept.Kept.{Kept}
 use Rattle.receives.proofs.Newest.{newest_kept}
-use Rattle.receives.proofs.refused.newest_of.Goals as goal
+use Rattle.receives.proofs.sources.newest_of.Goals as goal
 
 pub returns-in-Some : goal.returns-in-Some
 returns-in-Some c =

@@ -11,7 +11,7 @@ use Rattle.removals.proofs.Losses.{lost_alike}
 use Rattle.removals.proofs.Marked.{marks_union}
 use Rattle.receives.proofs.Created.{lost_with_copy}
 use Rattle.receives.proofs.Forced.{forced}
-use Rattle.receives.proofs.before.forced_back.Goals as goal
+use Rattle.receives.proofs.going.forced_back.Goals as goal
 
 pub returns-in_default-clause-lost : goal.returns-in_default-clause-lost
 returns-in_default-clause-lost c = lost_with_copy c.args.table.now c.args.freeing.now c.requires.apart c.of.result c.of.ensures.ok
