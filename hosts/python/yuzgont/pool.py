@@ -22,11 +22,12 @@ _WORD = re.compile(r"[!-~]+")
 
 
 class Receiving(IntEnum):
-    """What a receive begins with.
+    """The mode of a receive (docs/RECEIVE.md).
 
-    `PLAIN`: a stream in full makes a new file system; one from a source needs one that hasn't left the source. `BACK`: the file system goes back to
-    its newest snapshot first. `PAST`: it goes back to the stream's source, and newer snapshots and bookmarks go. `ORIGIN`: a stream from a
-    snapshot makes a clone of that. `REPLACE`: a stream in full takes the place of a file system, whose contents, snapshots and bookmarks go.
+    `PLAIN`: a full stream makes a new file system. An incremental one goes into a file system that hasn't changed since its newest snapshot.
+    `BACK`: the file system is rolled back to its newest snapshot first. `PAST`: it is rolled back to the stream's source; newer snapshots and
+    bookmarks are destroyed. `ORIGIN`: an incremental stream makes a clone of its source. `REPLACE`: a full stream takes the place of a file
+    system, whose contents, snapshots and bookmarks are destroyed.
     """
 
     PLAIN = 0

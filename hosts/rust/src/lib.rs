@@ -227,7 +227,7 @@ pub struct Receiver<'a> {
 }
 
 impl Receiver<'_> {
-    /// Receives what was written: [`Error::BadStream`] where that isn't one whole stream, or none for the mode.
+    /// Receives what was written: [`Error::BadStream`] where that isn't one whole stream, or not one for the mode.
     pub fn finish(self) -> Result<(), Error> {
         let (name, bytes, origin) = (self.name, &self.bytes, self.mode.origin());
         let mode = self.mode.number();

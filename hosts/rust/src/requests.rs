@@ -24,18 +24,18 @@ pub enum PoolProperty {
     Group = 5,
 }
 
-/// What a receive begins with ([`Pool::receive`]).
+/// The mode of a receive ([`Pool::receive`], docs/RECEIVE.md).
 #[derive(Clone, Copy, PartialEq, Eq, Debug)]
 pub enum Receiving<'a> {
-    /// A stream in full makes a new file system; one from a source needs one that hasn't left the source.
+    /// A full stream makes a new file system. An incremental one goes into a file system that hasn't changed since its newest snapshot.
     Plain,
-    /// The file system goes back to its newest snapshot first.
+    /// The file system is rolled back to its newest snapshot first.
     Back,
-    /// It goes back to the stream's source: newer snapshots and bookmarks go.
+    /// The file system is rolled back to the stream's source. Its newer snapshots and bookmarks are destroyed.
     Past,
-    /// A stream from the snapshot of this name makes a new file system, which is a clone of it.
+    /// An incremental stream from the snapshot of this name makes a new file system, which is a clone of it.
     Origin(&'a str),
-    /// A stream in full takes the place of a file system that is there: its contents, snapshots and bookmarks go.
+    /// A full stream takes the place of a file system that is there. Its contents, snapshots and bookmarks are destroyed.
     Replace,
 }
 
@@ -58,7 +58,7 @@ impl<'a> Receiving<'a> {
     }
 }
 
-/// Back by force, or not.
+/// `true` is [`Receiving::Back`], and `false` is [`Receiving::Plain`].
 impl From<bool> for Receiving<'_> {
     fn from(force: bool) -> Self {
         if force {
