@@ -123,13 +123,13 @@ enum yuz_limit {
     YUZ_LIMIT_REF_RESERVATION = 3
 };
 
-/* What `yuz_receive` begins with (docs/REFUSALS.md has the order of each one's refusals). */
+/* The mode of a receive (docs/RECEIVE.md, with the order of refusals of each). */
 enum yuz_receiving {
-    YUZ_RECEIVE_PLAIN = 0,   /* a stream in full makes a file system; one from a source needs one that hasn't left the source */
-    YUZ_RECEIVE_BACK = 1,    /* the file system goes back to its newest snapshot first */
-    YUZ_RECEIVE_PAST = 2,    /* it goes back to the stream's source: newer snapshots and bookmarks go */
-    YUZ_RECEIVE_ORIGIN = 3,  /* a stream from a snapshot makes a clone of that */
-    YUZ_RECEIVE_REPLACE = 4  /* a stream in full takes the place of a file system: its contents, snapshots and bookmarks go */
+    YUZ_RECEIVE_PLAIN = 0,   /* a full stream makes a file system; an incremental one goes into one that hasn't changed since its newest snapshot */
+    YUZ_RECEIVE_BACK = 1,    /* the file system is rolled back to its newest snapshot first */
+    YUZ_RECEIVE_PAST = 2,    /* the file system is rolled back to the stream's source; newer snapshots and bookmarks are destroyed */
+    YUZ_RECEIVE_ORIGIN = 3,  /* an incremental stream makes a clone of its source */
+    YUZ_RECEIVE_REPLACE = 4  /* a full stream takes the place of a file system; its contents, snapshots and bookmarks are destroyed */
 };
 
 /* What an entry of a list is, by its name: a file system, `p/a@s` or `p/a#m`. */
@@ -291,7 +291,7 @@ static inline int yuz_stream(yuz_pool *pool, size_t from, void *buffer, size_t l
 }
 
 /* Receives a whole stream as a snapshot, in a mode; `origin` names a snapshot at YUZ_RECEIVE_ORIGIN, and isn't looked at elsewhere.
- * YUZ_BAD_STREAM where the bytes are no stream, as where it was cut, or none for the mode; YUZ_NO_PROPERTY where there is no such mode. */
+ * YUZ_BAD_STREAM where the bytes are no stream, as where it was cut, or not one for the mode; YUZ_NO_PROPERTY where there is no such mode. */
 static inline int yuz_receive(yuz_pool *pool, const char *name, size_t name_length, const void *bytes, size_t length, enum yuz_receiving mode, const char *origin, size_t origin_length) {
     if (pool == NULL || yuz_is_wrong(name, name_length) || yuz_is_wrong(bytes, length) || yuz_is_wrong(origin, origin_length)) return YUZ_NULL;
     return yuzgont_receive(pool, yuz_bytes(name), name_length, yuz_bytes(bytes), length, (uint32_t)mode, yuz_bytes(origin), origin_length);
