@@ -50,6 +50,7 @@ module _ (w : World) (good : AreFileSystems w.file_systems w.group) (name : Name
   }
 
   lines : IsGood (shapes (insert left name empty)) w.group
+  unfolding writes
   lines = (write_keeps (shapes left) (shapes (insert left name empty)) w.group name (blocks finmap.empty) (start left w.group left_good.lines name mid here) left_good.lines writes
       (starts left w.group left_good.lines name mid here) (λ b h. absurd (no_block b h))).0
 

@@ -5,6 +5,7 @@ use Rattle.std.specs.List.{filter, find, last_or}
 use Rattle.std.specs.Option.{option_map, option_map_or, option_and_then}
 use Rattle.std.specs.FinMap.{get, contains_key}
 use Rattle.base.specs.declared.number.Key.{Key}
+use Rattle.base.specs.declared.refusal.Refusal.{Refusal}
 use Rattle.base.specs.declared.refusal.Refusal.TheVariants.{NoDataset, Exists, Busy, HasClones, BadStream}
 use Rattle.base.specs.Rewrite.{rewrite}
 use Rattle.base.specs.Names.{same_name}
@@ -35,14 +36,15 @@ use Rattle.world.proofs.views.ViewedRequests.{row_false, not_some, not_viewed, a
 
 -- ---- what the rows say
 
+-- of a row that refuses nothing the first line doesn't
+first_none : (b : Bool) (why : Refusal) (x y : Option Refusal) → (y ≡ None → x ≡ None) → cond b (Some why) y ≡ None → cond b (Some why) x ≡ None
+first_none true why x y rest k = absurd (no_value why (sym k))
+first_none false why x y rest k = rest k
+
 -- the front of a row that refuses nothing
 left_none : (xs ys : Row) → first_of (xs ++ ys) ≡ None → first_of xs ≡ None
 left_none [] ys e = refl
-left_none (x ∷ xs) ys e = by_first x.0 e
-  where
-    by_first : (b : Bool) → cond b (Some x.1) (first_of (xs ++ ys)) ≡ None → cond b (Some x.1) (first_of xs) ≡ None
-    by_first true k = absurd (no_value x.1 (sym k))
-    by_first false k = left_none xs ys k
+left_none (x ∷ xs) ys e = first_none x.0 x.1 (first_of xs) (first_of (xs ++ ys)) (λ k. left_none xs ys k) e
 
 -- where a receive isn't refused, its stream isn't
 pub stream_none : (s : State) (m : Member) (sent : Sending) (mode : Receiving) → refusal_of s (receive_rule m (Some sent) mode) ≡ None
