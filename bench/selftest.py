@@ -18,6 +18,8 @@ from pathlib import Path
 
 ROOT = Path(__file__).resolve().parent.parent
 ZFSP, LIBRARY = "crates/zfsp/out/zfsp", "crates/yuzgont_c/out/libyuzgont_c.a"
+# The shared library, which the hosts' part of the gate leaves.
+SHARED = "hosts/out/libyuzgont.so"
 BUILT = (ZFSP, LIBRARY, "crates/yuzgont_c/out/libyuzgont_c.a.stamp")
 # A crate whose wrong bodies are broken.
 CRATE = "node"
@@ -169,6 +171,12 @@ def leak(copy):
     return *copy.run("env", f"YUZGONT_LIB={Path(LIBRARY).parent}", "bash", "hosts/run.sh", "1000"), "77 bytes in 1 blocks are definitely lost"
 
 
+def receive_in_a_mode(copy):
+    """A plain machine that forgets the limits of a file system whose place a stream takes."""
+    copy.edit("bench/plain.py", r"FileSystem\(limits=f\.limits\)", "FileSystem()")
+    return *copy.run("env", f"YUZGONT_LIBRARY={ROOT / SHARED}", sys.executable, "bench/receives.py", "--pools", "50", "--requests", "150"), "the plain machine: "
+
+
 def short(copy):
     copy.edit("bench/machine.py", r"^LEFT, OF_EACH_PROOF = \S+", "LEFT, OF_EACH_PROOF = 9_000_000_000,")
     return *copy.python("bench/machine.py"), "machine: short of "
@@ -206,6 +214,7 @@ BROKEN = {
     "a file that isn't laid out": (layout, None),
     "a count in a page": (count, None),
     "a leak in a host": (leak, LIBRARY),
+    "a receive in one of its modes": (receive_in_a_mode, SHARED),
     "a disk that is too small": (short, None),
     "a part of the gate": (part, None),
     "a proof that is refused": (proof_once, None),

@@ -1,12 +1,14 @@
 -- A new file system has no block of its own, a clone only those of its origin.
 use Rattle.std.proofs.Common.{◌≡◌, ℕ, List, Some, None, Result, Ok, Err, refl, sym, ap, subst, ◌∙◌, inr, ⊎_elim}
-use Rattle.std.specs.Prelude.{IfOk}
+use Rattle.std.specs.Prelude.{IfOk, IfSome}
+use Rattle.std.specs.Option.{option_map_or}
 use Rattle.std.specs.FinMap.{get}
 use Rattle.std.specs.FinMap as finmap
 use Rattle.base.specs.declared.refusal.Refusal.{Refusal}
 use Rattle.base.specs.Map.{Map, Block, BlockSet, blocks}
 use Rattle.base.specs.Surveys.{IsIn}
 use Rattle.base.specs.declared.name.member.Member.{Member}
+use Rattle.datasets.specs.Clones.{with_clone_of}
 use Rattle.model.specs.World.{FileSystem, Snap, id_of, snap_named, maps_of, map_of_snap, empty_file_system, union_of}
 use Rattle.model.specs.requests.Clone.{with_clone}
 use Rattle.world.specs.Blocks.{block_order as o}
@@ -22,6 +24,7 @@ use Rattle.world.proofs.lists.SetCounts.{same_members}
 use Rattle.removals.specs.declared.working_copy.WorkingCopy.{WorkingCopy}
 use Rattle.removals.specs.Edits.{HasLost}
 use Rattle.removals.proofs.Losses.{lost_none, lost_alike}
+use Rattle.receives.specs.Requests.{cloned}
 
 -- a new file system, each of whose blocks some dataset has
 module _ (t : Datasets) (name : List ℕ) (absent : get t.file_systems name ≡ None) (f : FileSystem)
@@ -64,6 +67,17 @@ lost_with_clone t good name absent origin v is = lost_with_made t name absent (r
     in_union_of (world_of t) origin.file_system k.0 v.map b k.1 (inr (map_in (λ (u : Snap). u.map) k.0.snaps v k.2)) (subst (λ (y : Map). Has (blocks y) b) (e ∙ map_is) h))
     (λ x. absurd x)
     i)
+
+-- which is the clone that the receive begins with
+pub cloned_is : (t : Datasets) (name : List ℕ) (origin : Member) (v : Snap) → snap_named (world_of t) origin ≡ Some v → with_clone_of t (id_of v) name ≡ cloned t name origin
+cloned_is t name origin v is = sym (ap (λ x. record t { file_systems = (option_map_or (λ (u : Snap). with_clone (world_of t) (id_of u) name) x (world_of t)).file_systems }) is)
+
+-- on a copy of the datasets
+pub cloned_by : (t e u : Datasets) (name : List ℕ) (origin : Member) (v : Snap) → snap_named (world_of t) origin ≡ Some v → e ≡ t
+    → IfSome (snap_named (world_of e) origin) (λ s. u ≡ with_clone_of e (id_of s) name) → u ≡ with_clone_of t (id_of v) name
+cloned_by t e u name origin v is same made =
+    subst (λ x. IfSome x (λ (s : Snap). u ≡ with_clone_of t (id_of s) name)) is
+    (subst (λ (d : Datasets). IfSome (snap_named (world_of d) origin) (λ (s : Snap). u ≡ with_clone_of d (id_of s) name)) same made)
 
 -- nor with a copy
 pub lost_with_copy : (t : Datasets) (freeing : BlockSet) → AreDisjoint (union_of (world_of t)) freeing → (r : Result WorkingCopy Refusal)

@@ -1,7 +1,8 @@
 -- A file system back at the snapshot that a stream starts from.
 use Rattle.std.proofs.Common.{◌≡◌, ℕ, Bool, true, false, List, [], Option, Some, None, refl, sym, ap, ◌∙◌, map}
-use Rattle.std.specs.List.{find, list_any}
-use Rattle.std.specs.Option.{option_map, option_map_or}
+use Rattle.std.specs.Prelude.{◌==◌}
+use Rattle.std.specs.List.{filter, find, last_or, list_any}
+use Rattle.std.specs.Option.{option_map, option_map_or, option_and_then}
 use Rattle.std.specs.FinMap.{get, insert}
 use Rattle.base.specs.Names.{same_name}
 use Rattle.base.specs.declared.name.target.Target.TheVariants.{Snapshot as OfSnapshot}
@@ -20,6 +21,24 @@ use Rattle.removals.proofs.Clones.{outside_is}
 use Rattle.removals.proofs.Rolled.{rolled_at}
 use Rattle.removals.proofs.Seen.{any_later}
 use Rattle.receives.specs.Requests.{past}
+
+-- ---- the source, by what was found of it
+
+-- the newest snapshot of a file system with this guid
+abbrev newest_with : ℕ → FileSystem → Option Snap
+newest_with guid f = last_or None (filter (λ (u : Snap). u.guid == guid) f.snaps)
+
+abbrev source_in : ℕ → Option FileSystem → Option (FileSystem × Snap)
+source_in guid x = option_and_then (λ (f : FileSystem). option_map (λ (u : Snap). (f, u)) (newest_with guid f)) x
+
+pub source_is : (t : Datasets) (name : List ℕ) (guid : ℕ) (f : FileSystem) → get t.file_systems name ≡ Some f → (x : Option Snap) → x ≡ newest_with guid f
+    → source_of (world_of t) name guid ≡ option_map (λ (u : Snap). (f, u)) x
+source_is t name guid f at x is = ap (source_in guid) at ∙ ap (option_map (λ (u : Snap). (f, u))) (sym is)
+
+pub source_none : (t : Datasets) (name : List ℕ) (guid : ℕ) → get t.file_systems name ≡ None → source_of (world_of t) name guid ≡ None
+source_none t name guid none = ap (source_in guid) none
+
+-- ---- the file system back there
 
 module _ (t : Datasets) (good : AreFileSystems t.file_systems t.group) (name : List ℕ) (guid : ℕ) (p : FileSystem × Snap) (is : source_of (world_of t) name guid ≡ Some p) where
   pub past_at : get t.file_systems name ≡ Some p.0

@@ -120,6 +120,7 @@ fn with_clone(
     ensures lost { IfOk result (λ e. HasLost table.now freeing.now e.to e.freeing) }
     ensures err { IfErr result (λ e. e ≡ Refusal.NoMemory) }
 {
+    table.facts();
     let mut edit = WorkingCopy::of(table, freeing)?;
     edit.to.add_clone(name, origin)?;
     Ok(edit)

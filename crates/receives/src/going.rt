@@ -64,6 +64,7 @@ pub(crate) fn back_past(
     ensures err { IfErr result (λ e. e ≡ Refusal.NoMemory) }
     ensures never_lower { segments.old ≤ segments.new }
 {
+    table.facts();
     let mut edit = WorkingCopy::of(table, freeing)?;
     let Some(file_system) = table.find(name) else {
         return Ok(edit);
@@ -99,6 +100,7 @@ pub(crate) fn replaced(
     ensures err { IfErr result (λ e. e ≡ Refusal.NoMemory) }
     ensures never_lower { segments.old ≤ segments.new }
 {
+    table.facts();
     let Some(file_system) = table.find(name) else {
         unreachable!()
     };
