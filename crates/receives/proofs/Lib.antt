@@ -4,7 +4,7 @@ pub mod Newest
 pub mod Refusals
 pub mod Created
 pub mod Forced
-pub mod Going
+pub mod Leaving
 pub mod Past
 pub mod Replaced
 pub mod Sourced

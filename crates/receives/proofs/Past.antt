@@ -1,5 +1,5 @@
 -- A file system back at the snapshot that a stream starts from.
-use Rattle.std.proofs.Common.{◌≡◌, ℕ, Bool, true, false, List, [], Option, Some, None, refl, sym, ap, ◌∙◌, map}
+use Rattle.std.proofs.Common.{◌≡◌, ℕ, false, List, [], Option, Some, None, sym, ap, ◌∙◌, map}
 use Rattle.std.specs.Prelude.{◌==◌}
 use Rattle.std.specs.List.{filter, find, last_or, list_any}
 use Rattle.std.specs.Option.{option_map, option_map_or, option_and_then}
@@ -35,15 +35,9 @@ pub source_is : (t : Datasets) (name : List ℕ) (guid : ℕ) (f : FileSystem) �
     → source_of (world_of t) name guid ≡ option_map (λ (u : Snap). (f, u)) x
 source_is t name guid f at x is = ap (source_in guid) at ∙ ap (option_map (λ (u : Snap). (f, u))) (sym is)
 
-pub source_none : (t : Datasets) (name : List ℕ) (guid : ℕ) → get t.file_systems name ≡ None → source_of (world_of t) name guid ≡ None
-source_none t name guid none = ap (source_in guid) none
-
 -- ---- the file system back there
 
 module _ (t : Datasets) (good : AreFileSystems t.file_systems t.group) (name : List ℕ) (guid : ℕ) (p : FileSystem × Snap) (is : source_of (world_of t) name guid ≡ Some p) where
-  pub past_at : get t.file_systems name ≡ Some p.0
-  past_at = (from_source (world_of t) name guid p is).0
-
   -- it is the only one of its name
   by_name : find (λ (v : Snap). same_name v.name p.1.name) p.0.snaps ≡ Some p.1
   by_name =
@@ -71,9 +65,3 @@ module _ (t : Datasets) (good : AreFileSystems t.file_systems t.group) (name : L
       rolled_at t good (name, p.0) k.0 parts.0 p.1 parts.1 parts.2 p.1.name by_name
       ∙ sym (ap (λ x. record t { file_systems = (option_map_or (λ (q : FileSystem × Snap). with_losses w (with_file_system w name (λ f. back_at f q.1))) x w).file_systems }) is
       ∙ ap (λ x. record t { file_systems = (option_map_or (λ (f : FileSystem). record w { file_systems = insert w.file_systems name (back_at f p.1) }) x w).file_systems }) k.0)
-
--- and where there is none they stay
-pub past_none : (t : Datasets) (name : List ℕ) (guid : ℕ) → source_of (world_of t) name guid ≡ None → t ≡ past t name guid
-past_none t name guid none =
-    let w = world_of t in
-    sym (ap (λ x. record t { file_systems = (option_map_or (λ (q : FileSystem × Snap). with_losses w (with_file_system w name (λ f. back_at f q.1))) x w).file_systems }) none)

@@ -1,5 +1,5 @@
 -- What a receive begins with takes the snapshot.
-use Rattle.std.proofs.Common.{◌≡◌, ℕ, List, inl, inr, ◌+◌, ◌<◌, ◌≤◌, ◌^◌, Bool, true, false, not, cond, ◌||◌, ◌&&◌, [], ◌∷◌, Option, Some, None, Result, Ok, Err, refl, sym, ap, subst, ◌∙◌, true≢false, length, arith}
+use Rattle.std.proofs.Common.{◌≡◌, ℕ, List, inl, inr, ◌+◌, ◌<◌, ◌≤◌, ◌^◌, Bool, true, false, not, ◌||◌, [], ◌∷◌, Option, Some, None, Result, Ok, Err, refl, sym, ap, subst, ◌∙◌, true≢false, length, arith}
 use Rattle.std.specs.Prelude.{IfOk, is_some, nat_lt, nat_le, ◌==◌, if◌then◌else◌}
 use Rattle.std.proofs.lemmas.Bool.{ltb-false, not-false}
 use Rattle.std.specs.List.{find}
@@ -29,7 +29,7 @@ use Rattle.world.specs.Takings.{AreTakable}
 use Rattle.world.specs.Tables.{Datasets, world_of}
 use Rattle.world.specs.Worlds.{AreFileSystems}
 use Rattle.world.proofs.lists.Finding.{or_none, from_filter, from_find, found_none, name_itself, one_name}
-use Rattle.world.proofs.lists.Maps.{some_of, no_value}
+use Rattle.world.proofs.lists.Maps.{some_of}
 use Rattle.world.proofs.lineage.Put.{put_here}
 use Rattle.world.proofs.views.ViewedReceives.{no_full, no_incremental, replaced_there, from_source}
 use Rattle.world.proofs.views.ViewedRequests.{row_false}

@@ -1,34 +1,36 @@
 -- A file system that is emptied but for its limits.
-use Rattle.std.proofs.Common.{◌≡◌, ℕ, Bool, false, map, List, [], ◌∷◌, Option, Some, None, refl, sym, ap, subst, ◌∙◌, ⊎_elim}
+use Rattle.std.proofs.Common.{◌≡◌, ℕ, false, map, List, [], ◌∷◌, Option, Some, None, Result, Ok, Err, ◌⊎◌, sym, ap, subst, ◌∙◌, ⊎_elim}
+use Rattle.std.specs.Prelude.{IfErr}
+use Rattle.base.specs.declared.refusal.Refusal.{Refusal}
+use Rattle.base.specs.declared.refusal.Refusal.TheVariants.{NoDataset, NoMemory}
 use Rattle.std.specs.List.{list_any}
 use Rattle.std.specs.Option.{option_map_or}
 use Rattle.std.specs.FinMap.{get, insert}
-use Rattle.base.specs.Map.{Map}
 use Rattle.base.specs.Surveys.{IsIn}
 use Rattle.model.specs.declared.limits.Limit.{Limit}
 use Rattle.model.specs.declared.limits.Limit.TheVariants.{Quota, RefQuota, Reservation, RefReservation}
 use Rattle.model.specs.Limits.{limit_of, limited}
 use Rattle.model.specs.World.{FileSystem, Limits, maps_of, empty_file_system, union_of, id_of}
-use Rattle.model.specs.Edits.{with_file_system, with_losses}
+use Rattle.model.specs.Edits.{with_losses}
 use Rattle.model.specs.requests.Destroy.{snaps_within}
 use Rattle.model.specs.requests.Receive.{vacated}
 use Rattle.model.specs.requests.Rollback.{snaps_after, has_clone_outside}
 use Rattle.datasets.specs.Limits.{with_limit_of}
 use Rattle.world.specs.Blocks.{block_order as o}
-use Rattle.world.specs.Sets.{Has, IsSubset}
+use Rattle.world.specs.Sets.{IsSubset}
 use Rattle.world.specs.Shapes.{name_order}
 use Rattle.world.specs.Tables.{Datasets, world_of, with_system}
 use Rattle.world.specs.Worlds.{AreFileSystems}
 use Rattle.world.proofs.lineage.Bridge.{in_union_of, from_union_of}
 use Rattle.world.proofs.lineage.Put.{put_here, put_other, put_cases}
-use Rattle.world.proofs.lists.Maps.{same_value, key_cases}
+use Rattle.world.proofs.lists.Maps.{same_value, no_value, key_cases}
 use Rattle.world.proofs.lists.SetCounts.{same_members}
 use Rattle.removals.specs.Needs.{has_clone, has_clone_and_is_later}
 use Rattle.removals.proofs.Clones.{outside_is}
 use Rattle.removals.proofs.Rolled.{insert_twice}
 use Rattle.removals.proofs.Seen.{any_later}
 use Rattle.receives.specs.Requests.{replaced, with_limits}
-use Rattle.receives.proofs.Going.{all_go}
+use Rattle.receives.proofs.Leaving.{all_go}
 
 -- ---- limits of one file system
 
@@ -64,6 +66,12 @@ four_limits t name f at limits =
 pub limit_there : (t : Datasets) (name : List ℕ) (f : FileSystem) → get t.file_systems name ≡ Some f → (limit : Limit) (amount : Option ℕ)
     → get (with_limit_of t name limit amount).file_systems name ≡ Some (limited f limit amount)
 limit_there t name f at limit amount = ap (λ (u : Datasets). get u.file_systems name) (one_limit t name f at limit amount) ∙ put_here t.file_systems name (limited f limit amount)
+
+-- a limit of a file system that is there is refused for want of memory alone
+pub only_memory : (r : Result (Unit {0}) Refusal) (x : Option FileSystem) (f : FileSystem) → x ≡ Some f → (r ≡ Err NoDataset → x ≡ None) → IfErr r (λ e. (e ≡ NoDataset) ⊎ (e ≡ NoMemory))
+    → IfErr r (λ e. e ≡ NoMemory)
+only_memory (Ok u) x f at missing only = tt
+only_memory (Err e) x f at missing only = ⊎_elim (λ k. absurd (no_value f (sym (missing (ap Err k)) ∙ at))) (λ k. k) only
 
 -- ---- the datasets
 

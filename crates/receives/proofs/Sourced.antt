@@ -1,6 +1,11 @@
--- The snapshots that a walk over a file system's has seen: the last with a guid, and how many are of a later group.
-use Rattle.std.proofs.Common.{◌≡◌, ℕ, ◌+◌, ◌≤◌, Bool, true, false, cond, List, [], ◌∷◌, ◌++◌, Option, Some, None, Bor, map, refl, sym, ap, ◌∙◌, length, arith}
+-- The last snapshot with a guid that a walk over a file system's snapshots has seen, and how many are of a later group.
+use Rattle.std.proofs.Common.{◌≡◌, ℕ, zero, suc, ◌-◌, ◌<◌, get_or, Bool, true, false, cond, List, [], ◌∷◌, ◌++◌, Option, Some, None, Bor, map, refl, ap, ◌∙◌, length, arith}
+use Rattle.std.specs.Prelude.{nat_lt, nat_le}
+use Rattle.std.proofs.lemmas.Bool.Decides.{nat_tests}
 use Rattle.std.specs.List.{filter, last_or}
+use Rattle.std.specs.List.Sorted.{IsPartitionedBy, IsPartitionPoint}
+use Rattle.datasets.specs.Dead.{snaps_in}
+use Rattle.world.specs.Worlds.{AreRising}
 use Rattle.model.specs.World.{Snap}
 use Rattle.snapshots.specs.declared.kept.Kept.{Kept}
 
@@ -11,33 +16,13 @@ last_pushed p o [] x = by_test (p x)
     by_test : (b : Bool) → last_or o (cond b (x ∷ []) []) ≡ cond b (Some x) o
     by_test true = refl
     by_test false = refl
-last_pushed p o (y ∷ ys) x = by_test (p y)
+last_pushed p o (y ∷ ys) x = by_test (p y) (last_pushed p (Some y) ys x) (last_pushed p o ys x)
   where
-    by_test : (b : Bool) → last_or o (cond b (y ∷ filter p (ys ++ x ∷ [])) (filter p (ys ++ x ∷ []))) ≡ cond (p x) (Some x) (last_or o (cond b (y ∷ filter p ys) (filter p ys)))
-    by_test true = last_pushed p (Some y) ys x
-    by_test false = last_pushed p o ys x
-
-count_pushed : (p : Snap → Bool) (xs : List Snap) (x : Snap) → length (filter p (xs ++ x ∷ [])) ≡ length (filter p xs) + cond (p x) 1 0
-count_pushed p [] x = by_test (p x)
-  where
-    by_test : (b : Bool) → length (cond b (x ∷ []) []) ≡ cond b 1 0
-    by_test true = refl
-    by_test false = refl
-count_pushed p (y ∷ ys) x = by_test (p y) (count_pushed p ys x)
-  where
-    by_test : (b : Bool) → length (filter p (ys ++ x ∷ [])) ≡ length (filter p ys) + cond (p x) 1 0
-        → length (cond b (y ∷ filter p (ys ++ x ∷ [])) (filter p (ys ++ x ∷ []))) ≡ length (cond b (y ∷ filter p ys) (filter p ys)) + cond (p x) 1 0
-    by_test true ih = Prim.omega (arith, ih)
-    by_test false ih = ih
-
--- no more than there are
-pub count_few : (p : Snap → Bool) (xs : List Snap) → length (filter p xs) ≤ length xs
-count_few p [] = Prim.omega arith
-count_few p (x ∷ xs) = by_test (p x) (count_few p xs)
-  where
-    by_test : (b : Bool) → length (filter p xs) ≤ length xs → length (cond b (x ∷ filter p xs) (filter p xs)) ≤ length (x ∷ xs)
-    by_test true ih = Prim.omega (arith, ih)
-    by_test false ih = Prim.omega (arith, ih)
+    by_test : (b : Bool) → last_or (Some y) (filter p (ys ++ x ∷ [])) ≡ cond (p x) (Some x) (last_or (Some y) (filter p ys))
+        → last_or o (filter p (ys ++ x ∷ [])) ≡ cond (p x) (Some x) (last_or o (filter p ys))
+        → last_or o (cond b (y ∷ filter p (ys ++ x ∷ [])) (filter p (ys ++ x ∷ []))) ≡ cond (p x) (Some x) (last_or o (cond b (y ∷ filter p ys) (filter p ys)))
+    by_test true it rest = it
+    by_test false it rest = rest
 
 pushed : (xs : List (Bor Kept)) (x : Bor Kept) → map (λ (y : Bor Kept). y.now.snapshot) (xs ++ x ∷ []) ≡ map (λ (y : Bor Kept). y.now.snapshot) xs ++ x.now.snapshot ∷ []
 pushed [] x = refl
@@ -48,6 +33,36 @@ pub last_yielded : (p : Snap → Bool) (xs : List (Bor Kept)) (x : Bor Kept)
     → last_or None (filter p (map (λ (y : Bor Kept). y.now.snapshot) (xs ++ x ∷ []))) ≡ cond (p x.now.snapshot) (Some x.now.snapshot) (last_or None (filter p (map (λ (y : Bor Kept). y.now.snapshot) xs)))
 last_yielded p xs x = ap (λ l. last_or None (filter p l)) (pushed xs x) ∙ last_pushed p None (map (λ (y : Bor Kept). y.now.snapshot) xs) x.now.snapshot
 
-pub count_yielded : (p : Snap → Bool) (xs : List (Bor Kept)) (x : Bor Kept)
-    → length (filter p (map (λ (y : Bor Kept). y.now.snapshot) (xs ++ x ∷ []))) ≡ length (filter p (map (λ (y : Bor Kept). y.now.snapshot) xs)) + cond (p x.now.snapshot) 1 0
-count_yielded p xs x = ap (λ l. length (filter p l)) (pushed xs x) ∙ count_pushed p (map (λ (y : Bor Kept). y.now.snapshot) xs) x.now.snapshot
+-- ---- how many are of a later group
+
+-- those of a group or an earlier one come first
+pub parted : (low g : ℕ) (ks : List Kept) → AreRising low (snaps_in ks) → IsPartitionedBy (λ (k : Kept). nat_le k.snapshot.group g) ks
+parted low g [] up i j d le lt e = absurd (Prim.omega arith)
+parted low g (k ∷ ks) up zero zero d le lt e = e
+parted low g (k ∷ ks) up zero (suc j) d le lt e =
+    let l = at_place k.snapshot.group j ks up.1 d (Prim.omega arith) in
+    Prim.grind (arith, nat_tests)
+  where
+    at_place : (low j : ℕ) (ks : List Kept) → AreRising low (snaps_in ks) → (d : Kept) → j < length ks → low < (get_or ks j d).snapshot.group
+    at_place low j [] up d lt = absurd (Prim.omega arith)
+    at_place low zero (x ∷ ks) up d lt = up.0
+    at_place low (suc j) (x ∷ ks) up d lt = let l = up.0 in let m = at_place x.snapshot.group j ks up.1 d (Prim.omega arith) in Prim.omega arith
+parted low g (k ∷ ks) up (suc i) zero d le lt e = absurd (Prim.omega arith)
+parted low g (k ∷ ks) up (suc i) (suc j) d le lt e = parted k.snapshot.group g ks up.1 i j d (Prim.omega arith) (Prim.omega arith) e
+
+-- and all behind them are later
+pub counted_later : (g i : ℕ) (ks : List Kept) → IsPartitionPoint (λ (k : Kept). nat_le k.snapshot.group g ≡ true) (λ (k : Kept). nat_le k.snapshot.group g ≡ false) ks i
+    → length (filter (λ (t : Snap). nat_lt g t.group) (snaps_in ks)) ≡ length ks - i
+counted_later g i [] point = Prim.omega arith
+counted_later g zero (k ∷ ks) point =
+    let early : nat_le k.snapshot.group g ≡ false = point.1 zero k (Prim.omega arith) (Prim.omega arith) in
+    let later : nat_lt g k.snapshot.group ≡ true = Prim.grind (arith, nat_tests) in
+    let rest = counted_later g zero ks ((λ j d l m. absurd (Prim.omega arith)), (λ j d l m. point.1 (suc j) d (Prim.omega arith) (Prim.omega arith))) in
+    ap (λ b. length (cond b (k.snapshot ∷ filter (λ (t : Snap). nat_lt g t.group) (snaps_in ks)) (filter (λ (t : Snap). nat_lt g t.group) (snaps_in ks)))) later
+    ∙ Prim.omega (arith, rest)
+counted_later g (suc i) (k ∷ ks) point =
+    let early : nat_le k.snapshot.group g ≡ true = point.0 zero k (Prim.omega arith) (Prim.omega arith) in
+    let later : nat_lt g k.snapshot.group ≡ false = Prim.grind (arith, nat_tests) in
+    let rest = counted_later g i ks ((λ j d l m. point.0 (suc j) d (Prim.omega arith) (Prim.omega arith)), (λ j d l m. point.1 (suc j) d (Prim.omega arith) (Prim.omega arith))) in
+    ap (λ b. length (cond b (k.snapshot ∷ filter (λ (t : Snap). nat_lt g t.group) (snaps_in ks)) (filter (λ (t : Snap). nat_lt g t.group) (snaps_in ks)))) later
+    ∙ Prim.omega (arith, rest)

@@ -1,7 +1,7 @@
 //! The datasets that a receive begins with.
 ghost use Rattle.std.specs.Prelude.{◌≡◌, ◌≤◌, ◌⊎◌, Some, None, IsSome, IfSome, IfOk, IfErr, OnOk};
 ghost use Rattle.base.specs.declared.refusal.Refusal.{Refusal};
-ghost use Rattle.model.specs.State.{Views};
+ghost use Rattle.model.specs.State.{Views as OpenViews};
 ghost use Rattle.model.specs.World.{empty_file_system, union_of, snap_named};
 ghost use Rattle.model.specs.requests.Create.{create_refusal};
 ghost use Rattle.world.specs.Sets.{AreDisjoint};
@@ -69,7 +69,7 @@ fn start(
     segments: &mut SegMeter,
 ) -> Result<WorkingCopy, Refusal>
     requires apart { AreDisjoint (union_of (world_of table.now)) freeing.now }
-    requires can { (views : Views) × (receive_refusal table.now views name.now stream.now mode.now ≡ None) }
+    requires can { (views : OpenViews) × (receive_refusal table.now views name.now stream.now mode.now ≡ None) }
     ensures ok { IfOk result (λ e. e.to ≡ begun table.now name.now.file_system stream.now mode.now) }
     ensures lost { IfOk result (λ e. HasLost table.now freeing.now e.to e.freeing) }
     ensures err { IfErr result (λ e. e ≡ Refusal.NoMemory) }

@@ -144,6 +144,7 @@ fn past_refusal_at(
 fn replace_refusal(table: &Table, views: &Views, name: &DsName) -> Option<Refusal>
     ensures { result ≡ first_of (replace_row (world_of table.now) views.now.opened name.now) }
 {
+    table.facts();
     let Some(file_system) = table.find(name) else {
         return Some(Refusal::NoDataset);
     };

@@ -1,13 +1,15 @@
 //! Snapshots that may be the source of an incremental stream.
-ghost use Rattle.std.specs.Prelude.{◌≡◌, ◌==◌, None, false, length, nat_le};
+ghost use Rattle.std.specs.Prelude.{◌≡◌, ◌==◌, ℕ, None, false, length, nat_le};
 ghost use Rattle.std.specs.List.{filter, find, last_or};
 ghost use Rattle.std.specs.Option.{option_copied, option_map_or};
 ghost use Rattle.base.specs.Names.{same_name};
 ghost use Rattle.model.specs.requests.Rollback.{snaps_after};
+ghost use Rattle.world.specs.Worlds.{AreRising};
 
 use base::name::Component;
 use base::number::{Group, Guid};
 use datasets::{FileSystem, Snapshot};
+use snapshots::Kept;
 
 /// The newest snapshot of a file system, or none (zfs-receive(8)). Constant time.
 pub(crate) fn newest_of(file_system: &FileSystem) -> Option<&Snapshot>
@@ -48,15 +50,12 @@ pub(crate) fn has_snapshot_upto(
     }
 }
 
-/// How many snapshots of a file system are of a later group than this one (zfs-rollback(8)). It costs the number of its snapshots.
+/// How many snapshots of a file system are of a later group than this one (zfs-rollback(8)). It costs the logarithm of the number of its snapshots,
+/// and a walk over their chunks.
 pub(crate) fn count_after(file_system: &FileSystem, group: Group) -> usize
+    requires { (low : ℕ) × AreRising low file_system.now.system.snaps }
     ensures { result ≡ length (snaps_after file_system.now.system group.0) }
 {
-    let mut count = 0usize;
-    for kept in file_system.snapshots().iter() {
-        if kept.snapshot.group() > group {
-            count += 1;
-        }
-    }
-    count
+    let snapshots = file_system.snapshots();
+    snapshots.len() - snapshots.partition_point(|kept: &Kept| kept.snapshot.group().0 <= group.0)
 }
