@@ -1,5 +1,5 @@
 -- What limits are asked of a receive is a change of one account: what is told of it before a record is in force.
-use Rattle.std.proofs.Common.{◌≡◌, ℕ, ◌<◌, ◌^◌, Bool, List, [], ◌∷◌, Some, None, refl, sym, ap, subst, ◌∙◌, ⊎_elim, arith}
+use Rattle.std.proofs.Common.{◌≡◌, ℕ, ◌<◌, ◌^◌, List, [], ◌∷◌, Some, None, refl, sym, ap, subst, ◌∙◌, ⊎_elim, arith}
 use Rattle.std.specs.FinMap.{get, keys}
 use Rattle.std.specs.FinSet as set
 use Rattle.std.specs.FinSet.{difference}

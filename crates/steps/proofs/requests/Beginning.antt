@@ -8,6 +8,7 @@ use Rattle.std.specs.FinSet.{union, difference}
 use Rattle.std.proofs.lemmas.Bool.{leb-true, lt-ltb}
 use Rattle.base.specs.Map.{Block, BlockSet}
 use Rattle.base.specs.Surveys.{IsIn}
+use Rattle.base.specs.declared.refusal.Refusal.{Refusal}
 use Rattle.base.specs.declared.refusal.Refusal.TheVariants.{NoDataset, Deferred, WrongSource}
 use Rattle.base.specs.declared.name.member.Member.{Member}
 use Rattle.stream.specs.Spelling.{Sending}
@@ -79,9 +80,10 @@ last_split (u ∷ ts) t e = split_last u ts t e
 
 pub may_clone : (w : World) (name : Name) (origin : Member) (source : ℕ) → first_of (origin_row w name origin source) ≡ None → first_of (new_row w name) ≡ None
 may_clone w name origin source none =
-    rest_none (not (option_map_or (λ (t : Snap). t.guid == source) (snap_named w origin) false), WrongSource) (new_row w name)
-    (rest_none (option_map_or (λ (t : Snap). t.deferred) (snap_named w origin) false, Deferred) _
-    (rest_none (not (is_some (snap_named w origin)), NoDataset) _ none))
+    let from = snap_named w origin in
+    let last : Bool × Refusal = (not (option_map_or (λ (t : Snap). t.guid == source) from false), WrongSource) in
+    let next : Bool × Refusal = (option_map_or (λ (t : Snap). t.deferred) from false, Deferred) in
+    rest_none last (new_row w name) (rest_none next (last ∷ new_row w name) (rest_none (not (is_some from), NoDataset) (next ∷ last ∷ new_row w name) none))
 
 -- ---- worlds
 
