@@ -3,8 +3,9 @@
 
     python3 bench/gate.py [--cores 0,1] [--kept] [--log FILE] [--write]
 
-It begins from nothing: with a copy of the toolchain by links, beside which `rt ci` has kept nothing yet. With --kept it is the toolchain itself,
-with all that was kept on this machine. It prints a line a part of .ci/run, with the minutes by the clock and of the processors, the most memory
+It begins from nothing. Where `rt ci` has kept the proof of no crate of this text, that is with the toolchain itself, and what the run proves stays
+kept on this machine; else with a copy of the toolchain by links, beside which nothing is kept yet. With --kept it is the toolchain itself, with all
+that was kept on this machine. It prints a line a part of .ci/run, with the minutes by the clock and of the processors, the most memory
 and disk that the run took, and a line a crate: its lines of source, how many must-fail edits it has, and the CPU minutes of its proof, of its
 tests' proof, and of its edits, those of the part `bodies` among them; and then each edit of must-fail/ that took longer than 30 seconds. A process
 is looked at twice a second, so each check may have taken half a second more than is told. Let the machine do nothing else meanwhile.
@@ -22,6 +23,8 @@ import tempfile
 import time
 from collections import Counter, defaultdict
 from pathlib import Path
+
+from libraries import Libraries
 
 ROOT = Path(__file__).resolve().parent.parent
 PAGE = ROOT / "docs" / "GATE.md"
@@ -185,7 +188,8 @@ def main():
     with tempfile.TemporaryDirectory() as room:
         root = Path(room) / "repository"
         subprocess.run(["git", "clone", "-q", str(ROOT), str(root)], check=True)
-        path = os.environ["PATH"] if options.kept else toolchain_in(Path(room))
+        itself = options.kept or not Libraries(root).proved()
+        path = os.environ["PATH"] if itself else toolchain_in(Path(room))
         lines, minutes, sums, tried, (memory, disk) = run(root, options, path)
         parts = parts_of(lines)
         for name, (clock, cpu, said) in parts.items():
