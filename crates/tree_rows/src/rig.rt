@@ -1,6 +1,7 @@
 //! A tree with the allocator of its numbers.
-ghost use Rattle.std.specs.Prelude.{IfOk, IfSome, IsTrue, map};
+ghost use Rattle.std.specs.Prelude.{IfOk, IsTrue, map};
 ghost use Rattle.base.specs.Surveys.{AreDifferent};
+ghost use Rattle.tree.specs.Asking.{AllowsChange};
 ghost use Rattle.tree.specs.Taking.{AllFree};
 
 use base::meter::Meter;
@@ -78,8 +79,7 @@ fn is_made(tree: &Tree, new: NewBlock, group: Group) -> bool {
     }
 }
 
-/// Puts a batch in force on a tree, with the nodes that the put reaches counted. None where the updates are no batch, or a block of the tree is
-/// from a later group.
+/// Puts a batch in force on a tree, with the nodes that the put reaches counted.
 fn change(
     alloc: Global,
     tree: &mut Tree,
@@ -87,15 +87,12 @@ fn change(
     when: When,
     allocator: &Allocator,
     nodes: &mut Meter,
-) -> Result<Option<Changed>, Refusal>
-    ensures { IfOk result (λ done. IfSome done (λ d. AreDifferent (map (λ b. b.0) d.taken.items))) }
+) -> Result<Changed, Refusal>
+    requires { AllowsChange tree.old updates.now when.group.0 when.young.0 allocator.now }
+    ensures { IfOk result (λ done. AreDifferent (map (λ b. b.0) done.taken.items)) }
 {
-    let (group, young) = (when.group, when.young);
-    if young.0 > group.0 || !is_batch(updates) || !is_ready(alloc, tree, allocator, group)? {
-        return Ok(None);
-    }
-    let draft = tree.draft(alloc, updates, young, allocator, &mut meter())?;
-    Ok(Some(tree.put(alloc, updates, group, draft, nodes)?))
+    let draft = tree.draft(alloc, updates, when.young, allocator, &mut meter())?;
+    tree.put(alloc, updates, when.group, draft, nodes)
 }
 
 impl Rig {
@@ -106,6 +103,19 @@ impl Rig {
             tree: self.tree.copy()?,
             allocator,
         })
+    }
+
+    /// Whether a batch can be put in force: the updates are one, and no block of the tree is from a later group.
+    fn is_asked(&self, alloc: Global, updates: &[Update], when: When) -> Result<bool, Refusal>
+        ensures { IfOk result (λ is. IsTrue is → AllowsChange self.now.tree updates.now when.group.0 when.young.0 self.now.allocator) }
+    {
+        if when.young.0 > when.group.0
+            || !is_batch(updates)
+            || !is_ready(alloc, &self.tree, &self.allocator, when.group)?
+        {
+            return Ok(false);
+        }
+        Ok(true)
     }
 
     /// Takes and releases the numbers that a batch in force tells. Whether those that it takes are Free once the young blocks that it drops are
@@ -130,10 +140,10 @@ impl Rig {
         when: When,
         nodes: &mut Meter,
     ) -> Result<Told, Refusal> {
-        let done = change(alloc, &mut self.tree, updates, when, &self.allocator, nodes)?;
-        let Some(done) = done else {
+        if !self.is_asked(alloc, updates, when)? {
             return Ok(Told::Absent);
-        };
+        }
+        let done = change(alloc, &mut self.tree, updates, when, &self.allocator, nodes)?;
         let is_right = self.is_settled(&done.released, &done.taken, when.young)
             && are_made(&self.tree, &done.made, when.group);
         Ok(if is_right {
