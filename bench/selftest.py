@@ -81,7 +81,7 @@ def reply_by_definition(copy):
 def rows_told(copy):
     """A row that stands otherwise than plain values tell it; each crate of rows has its own."""
     said = ""
-    for crate in ("base_rows", "stream_rows", "ground_rows", "snapshot_rows"):
+    for crate in ("base_rows", "stream_rows", "ground_rows", "tree_rows", "snapshot_rows"):
         file = copy.root / f"crates/{crate}/stdout"
         text = file.read_text()
         copy.edit(f"crates/{crate}/stdout", r"\bok$", "none")
@@ -90,7 +90,7 @@ def rows_told(copy):
         if not status:
             return status, f"{crate}: {told}"
         said += told
-    return 1, said, "base_rows: stands ", "stream_rows: stands ", "ground_rows: stands ", "snapshot_rows: stands "
+    return 1, said, "base_rows: stands ", "stream_rows: stands ", "ground_rows: stands ", "tree_rows: stands ", "snapshot_rows: stands "
 
 
 def body_deleted(copy):
