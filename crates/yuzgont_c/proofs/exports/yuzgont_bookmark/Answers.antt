@@ -1,0 +1,4 @@
+use Rattle.yuzgont_c.proofs.exports.yuzgont_bookmark.Goals as goal
+
+pub returns : goal.returns
+returns c = (c.bookmark.result, c.code.ensures, c.bookmark.ensures)

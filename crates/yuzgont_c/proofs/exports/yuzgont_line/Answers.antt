@@ -1,0 +1,4 @@
+use Rattle.yuzgont_c.proofs.exports.yuzgont_line.Goals as goal
+
+pub returns : goal.returns
+returns c = (c.line.result, c.code.ensures, c.line.ensures)

@@ -1,0 +1,4 @@
+use Rattle.yuzgont_c.proofs.exports.yuzgont_list.Goals as goal
+
+pub returns : goal.returns
+returns c = (c.list.result, c.code.ensures, c.list.ensures)

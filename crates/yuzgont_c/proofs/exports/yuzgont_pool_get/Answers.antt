@@ -1,0 +1,4 @@
+use Rattle.yuzgont_c.proofs.exports.yuzgont_pool_get.Goals as goal
+
+pub returns : goal.returns
+returns c = (c.pool_get.result, c.code.ensures, c.pool_get.ensures)

@@ -1,0 +1,4 @@
+use Rattle.yuzgont_c.proofs.exports.yuzgont_punch.Goals as goal
+
+pub returns : goal.returns
+returns c = (c.punch.result, c.code.ensures, c.punch.ensures)

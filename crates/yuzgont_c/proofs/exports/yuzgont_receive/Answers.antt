@@ -1,0 +1,4 @@
+use Rattle.yuzgont_c.proofs.exports.yuzgont_receive.Goals as goal
+
+pub returns : goal.returns
+returns c = (c.receive.result, c.code.ensures, c.receive.ensures)

@@ -1,0 +1,4 @@
+use Rattle.yuzgont_c.proofs.exports.yuzgont_sync.Goals as goal
+
+pub returns : goal.returns
+returns c = (c.sync.result, c.code.ensures, c.sync.ensures)

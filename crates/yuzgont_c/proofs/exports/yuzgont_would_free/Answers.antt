@@ -1,0 +1,4 @@
+use Rattle.yuzgont_c.proofs.exports.yuzgont_would_free.Goals as goal
+
+pub returns : goal.returns
+returns c = (c.would_free.result, c.code.ensures, c.would_free.ensures)
