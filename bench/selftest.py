@@ -79,16 +79,18 @@ def reply_by_definition(copy):
 def rows_told(copy):
     """A row that stands otherwise than plain values tell it; each crate of rows has its own."""
     said = ""
-    for crate in ("base_rows", "stream_rows", "ground_rows", "snapshot_rows"):
+    scripts = {"pool_rows": "pool_rows.py", "session_rows": "session_rows.py"}
+    for crate in ("base_rows", "stream_rows", "ground_rows", "snapshot_rows", *scripts):
         file = copy.root / f"crates/{crate}/stdout"
         text = file.read_text()
         copy.edit(f"crates/{crate}/stdout", r"\bok$", "none")
-        status, told = copy.python("bench/ground.py")
+        status, told = copy.python(f"bench/{scripts.get(crate, 'ground.py')}")
         file.write_text(text)
         if not status:
             return status, f"{crate}: {told}"
         said += told
-    return 1, said, "base_rows: stands ", "stream_rows: stands ", "ground_rows: stands ", "snapshot_rows: stands "
+    names = ("base_rows", "stream_rows", "ground_rows", "snapshot_rows", *scripts)
+    return 1, said, *(f"{it}: stands " for it in names)
 
 
 def body_deleted(copy):
