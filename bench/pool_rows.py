@@ -3,7 +3,7 @@
 
     python3 bench/pool_rows.py
     python3 bench/pool_rows.py --write
-    python3 bench/pool_rows.py PROGRAM
+    python3 bench/pool_rows.py [--gate] PROGRAM
 
 The rows stand in crates/pool_rows/stdin, and what they tell in crates/pool_rows/stdout, which `rt ci` compares with what the program prints. A
 reply is the one that bench/plain.py gives; the walks of an image are those of the plain machine's datasets; the number of blocks that a step
@@ -15,28 +15,33 @@ With a built program it asks more rows than a file has:
 - after each line of random scripts both worlds are walked in the image as the plain machine has them;
 - each request for memory of a script with each kind of request is refused in turn, at once and in two steps. The line that is told NoMemory
   has changed nothing: all lines after it, and all that can be asked of the pool, are answered as if it were left out. Asked again it is
-  answered as ever, and in the end the pool has the same blocks at the same numbers as one that was never refused memory.
+  answered as ever, and in the end the pool has the same blocks at the same numbers as one that was never refused memory. With --gate one request
+  of twenty is refused, chosen by the digest of HEAD's tree.
 
 Anything else is printed, and the exit status is 1.
 """
 
 import argparse
+import hashlib
 import os
 import struct
 import sys
 import tempfile
 from collections import Counter
 from concurrent.futures import ThreadPoolExecutor
-from functools import lru_cache
+from functools import lru_cache, partial
 from pathlib import Path
 
 import plain
 import refused
 from judge import Judge
 from row_words import MASK, mixed
+from wrong_bodies import order_of_tree
 
 ROOT = Path(__file__).resolve().parent.parent
 CRATE = ROOT / "crates" / "pool_rows"
+# Of so many requests for memory the gate refuses one.
+SHARE = 20
 # How many blocks the lines behind `stops` write. A path has six blocks. The first write of a leaf that was synced moves them all; the next one
 # changes the leaf where it is; that of its neighbour moves a leaf, and changes a pointer; one below another block of level 1 makes both, and
 # changes a pointer; a punch of one leaf of two changes a pointer.
@@ -250,6 +255,10 @@ class LeftOut(refused.Script):
         self.asked += [b"walks now", b"walks last"]
         self.plain = machine.run(self.asked)
 
+    def numbers(self):
+        """The requests for memory that are refused, one in each run."""
+        return range(1, self.asks + 1)
+
 
 def beside(way, lines):
     """Rows that ask lines of a pool in a way and of another at once."""
@@ -260,11 +269,18 @@ def beside(way, lines):
 class AskedAgain:
     """Rows that end with the question whether the pool has the blocks of another, and of which one is asked once more where it was told NoMemory."""
 
+    # What the last row tells where the blocks are the same.
+    ALIKE = b"yes"
+
     def __init__(self, machine, rows):
         self.machine, self.rows = machine, rows
         self.asks, self.plain = machine.asks(self.rows), machine.run(self.rows)[1]
-        if self.plain[-1] != b"yes":
-            sys.exit("pool_rows: the two pools have other blocks")
+        if self.plain[-1] != self.ALIKE:
+            sys.exit(f"{self.plain[-1].decode()[:60]} is told of the blocks where no memory was refused, wanted {self.ALIKE.decode()}")
+
+    def numbers(self):
+        """The requests for memory that are refused, one in each run."""
+        return range(1, self.asks + 1)
 
     def judge(self, number):
         """What became of a run with one request refused, as bench/refused.py says it, or what is wrong with it."""
@@ -288,40 +304,58 @@ class AskedAgain:
         return 0
 
 
-def tried(name, subject, workers):
-    """Refuses each request of a subject; whether something is wrong, which is printed."""
-    verdicts = list(workers.map(subject.judge, range(1, subject.asks + 1)))
-    faults = [f"request {number}: {it}" for number, it in enumerate(verdicts, 1) if it not in refused.FINE]
+def chosen(numbers, share):
+    """One of so many numbers. Which, the digest of HEAD's tree says: nobody chooses them, and the next commit has other ones."""
+    first = int(hashlib.sha256(order_of_tree().encode()).hexdigest(), 16) % share
+    return list(numbers)[first::share]
+
+
+def tried(name, subject, workers, share):
+    """Refuses requests of a subject, one of so many; whether something is wrong, which is printed."""
+    numbers = chosen(subject.numbers(), share)
+    verdicts = list(workers.map(subject.judge, numbers))
+    faults = [f"request {number}: {it}" for number, it in zip(numbers, verdicts) if it not in refused.FINE]
     faults += ["no line was refused"] * ("refused" not in verdicts)
     counts = Counter(it if it in refused.FINE else "wrong" for it in verdicts)
     print("".join(f"{name}: {it}\n" for it in faults[:5]) + f"{name}: {refused.text_of(counts)}")
     return bool(faults)
 
 
-def try_all(program):
-    """Asks a program all that a file has not; whether something is wrong, which is printed."""
+def try_rows(machine, workers):
+    """Asks a program more rows than a file has; whether something is wrong, which is printed."""
     streams = {"a stream of 63 bytes": stream(FIRST, SECOND, None), "a stream of 1,024 bytes": stream(FIRST, SECOND, 0x62)}
     lists = {f"each damage to {name}": list(damaged(it)) for name, it in streams.items()}
     lists |= {f"both worlds after each line of script {seed}": list(scripted(seed, 300)) for seed in range(20)}
+    faults = list(workers.map(lambda rows: fault_of(machine, rows), lists.values()))
+    print("".join(f"{name}: {it}\n" for name, it in zip(lists, faults) if it) + f"{faults.count('')} of {len(lists)} lists of rows are as the plain machine tells them")
+    return any(faults)
+
+
+def try_memory(machine, workers, share):
+    """Refuses memory to each kind of request; whether something is wrong, which is printed."""
+    is_wrong, lines = False, [it.encode() for it in each_kind()]
+    for way in (b"apply", b"two"):
+        name = f"each kind of request, {'at once' if way == b'apply' else 'in two'}"
+        is_wrong |= tried(name, LeftOut(Asked(machine, way), lines), workers, share)
+        is_wrong |= tried(f"{name}, and again", AskedAgain(machine, beside(way, lines)), workers, share)
+    return is_wrong
+
+
+def try_all(program, asked_more, refused_memory):
+    """Tries a program with more rows, and with memory refused to it; whether something is wrong."""
     with tempfile.TemporaryDirectory() as folder, ThreadPoolExecutor(os.cpu_count()) as workers:
         machine = refused.Machine(refused.compiled(Path(folder)), [program.resolve()])
-        faults = list(workers.map(lambda rows: fault_of(machine, rows), lists.values()))
-        print("".join(f"{name}: {it}\n" for name, it in zip(lists, faults) if it) + f"{faults.count('')} of {len(lists)} lists of rows are as the plain machine tells them")
-        is_wrong, lines = any(faults), [it.encode() for it in each_kind()]
-        for way in (b"apply", b"two"):
-            name = f"each kind of request, {'at once' if way == b'apply' else 'in two'}"
-            is_wrong |= tried(name, LeftOut(Asked(machine, way), lines), workers)
-            is_wrong |= tried(f"{name}, and again", AskedAgain(machine, beside(way, lines)), workers)
-    return is_wrong
+        return any([asked_more(machine, workers), refused_memory(machine, workers)])
 
 
 def main():
     arguments = argparse.ArgumentParser(usage=__doc__)
     arguments.add_argument("program", nargs="?", type=Path)
     arguments.add_argument("--write", action="store_true")
+    arguments.add_argument("--gate", action="store_true")
     words = arguments.parse_args()
     if words.program:
-        return try_all(words.program)
+        return try_all(words.program, try_rows, partial(try_memory, share=SHARE if words.gate else 1))
     rows = [it for it in (CRATE / "stdin").read_text().splitlines() if it and not it.startswith("#")]
     wanted = told(rows)
     if words.write:

@@ -3,7 +3,7 @@
 
     python3 bench/session_rows.py
     python3 bench/session_rows.py --write
-    python3 bench/session_rows.py PROGRAM
+    python3 bench/session_rows.py [--gate] PROGRAM
 
 The rows stand in crates/session_rows/stdin, and what they tell in crates/session_rows/stdout, which `rt ci` compares with what the program
 prints. A reply is the one that bench/plain.py gives. A session takes so many calls as it has room for, and then none; a view shows what its
@@ -15,7 +15,7 @@ With a built program it asks more rows than a file has:
 - two callers, and nine threads at once: callers, a caller of batches, readers of views, a syncer and a destroyer. Each reply is the one that
   the plain machine gives in the order of the history, each stands at the number that its caller was told, and each view shows its snapshot;
 - each request for memory of a session with each kind of request is refused in turn, by calls and by batches, as bench/pool_rows.py does it to
-  a pool.
+  a pool. With --gate it is one request of twenty.
 
 Anything else than there is printed, and the exit status is 1.
 """
@@ -23,10 +23,8 @@ Anything else than there is printed, and the exit status is 1.
 import argparse
 import os
 import sys
-import tempfile
 from collections import deque
-from concurrent.futures import ThreadPoolExecutor
-from functools import lru_cache
+from functools import lru_cache, partial
 from pathlib import Path
 
 import plain
@@ -465,20 +463,24 @@ class Asked(refused.Machine):
 
     @staticmethod
     def reply(row, told):
-        """The reply in what a row tells. A batch tells that to `list` too, and stops before the other where memory for its entry is refused."""
+        """The reply to the line in what a row tells. A batch tells what `list` and the line are told, of as many as have run: where memory is refused
+        to `list` alone, the line has run."""
         if row.startswith((b"sync ", b"free ")):
             return refused.REFUSED if told.endswith(refused.REFUSED) else told
         if row.startswith(b"batch "):
             told = told.split(b"; ")
-            if len(told) != 3 or told[0].endswith(refused.REFUSED):
+            if len(told) == 2 and not told[0].startswith(b"error "):
                 return refused.REFUSED
-            told = told[1]
+            told = told[-2]
         return told if told.startswith(b"error ") else told.partition(b" ")[2]
+
+    def rows(self, lines):
+        return [b"open 300 1000000", b"seat", *map(self.row, lines), b"end", b"close 0", b"replay"]
 
     def run(self, lines, refused_at=0, asked=os.devnull):
         """The status, the replies with what the end of the session tells, and what was told of a fault. What stands last before a fault is left out,
         since it may be cut off."""
-        rows = [b"open 300 1000000", b"seat", *map(self.row, lines), b"end", b"close 0", b"replay"]
+        rows = self.rows(lines)
         status, came, said = super().run(rows, refused_at, asked)
         if came[:2] != [b"ok", b"ok"]:
             return 3, [], b"no session"
@@ -487,28 +489,48 @@ class Asked(refused.Machine):
             return 3, replies[:-1], said or b"no memory"
         return status, replies, said
 
+    @lru_cache(maxsize=None)
+    def reads(self, lines):
+        """How many requests for memory a program makes while it reads all rows, before it carries out the first: as many as for comments."""
+        return refused.Machine(self.shim, self.command).asks([b"#" + it[1:] for it in self.rows(lines)])
+
+
+class LeftOut(refused.Script):
+    """Lines of a session, and all that can be asked then. Memory is refused once all rows were read."""
+
+    def numbers(self):
+        first = self.machine.reads(tuple(self.asked))
+        return range(first + 1, first + self.asks - self.machine.reads(tuple(self.lines)) + 1)
+
 
 class AskedAgain(pool_rows.AskedAgain):
-    """Lines of a session, whose program reads all its rows before it carries out the first."""
+    """Lines of a session, which is replayed in the end. Memory is refused once all rows were read."""
 
-    @lru_cache(maxsize=None)
+    # The replies of a fresh pool, and then its blocks.
+    ALIKE = b"yes yes"
+
+    def numbers(self):
+        return range(self.machine.reads(tuple(self.rows)) + 1, self.asks + 1)
+
     def requests_before(self, at):
         """As many as for a comment of the same length."""
-        return self.machine.asks([*self.rows, b"#" + self.machine.row(self.rows[at])[1:]]) - self.asks
+        return self.machine.reads((*self.rows, self.rows[at])) - self.machine.reads(tuple(self.rows))
 
 
-def try_all(program):
-    """Asks a program all that a file has not; whether something is wrong, which is printed."""
-    lines = [it.encode() for it in pool_rows.each_kind()]
-    with tempfile.TemporaryDirectory() as folder, ThreadPoolExecutor(os.cpu_count()) as workers:
-        machine = refused.Machine(refused.compiled(Path(folder)), [program.resolve()])
-        faults = {name: threads.fault(machine) for name, threads in THREADS.items()}
-        print("".join(f"{name}: {it}\n" if it else f"{name}: as the plain machine tells it\n" for name, it in faults.items()), end="")
-        is_wrong = any(faults.values())
-        for way in ("calls", "batches"):
-            asked = Asked(machine, way)
-            is_wrong |= pool_rows.tried(f"each kind of request, by {way}", refused.Script(asked, lines), workers)
-            is_wrong |= pool_rows.tried(f"each kind of request, by {way}, and again", AskedAgain(asked, lines), workers)
+def try_rows(machine, _workers):
+    """Has threads call a session; whether something is wrong, which is printed."""
+    faults = {name: threads.fault(machine) for name, threads in THREADS.items()}
+    print("".join(f"{name}: {it}\n" if it else f"{name}: as the plain machine tells it\n" for name, it in faults.items()), end="")
+    return any(faults.values())
+
+
+def try_memory(machine, workers, share):
+    """Refuses memory to a session with each kind of request; whether something is wrong, which is printed."""
+    is_wrong, lines = False, [it.encode() for it in pool_rows.each_kind()]
+    for way in ("calls", "batches"):
+        asked, name = Asked(machine, way), f"each kind of request, by {way}"
+        is_wrong |= pool_rows.tried(name, LeftOut(asked, lines), workers, share)
+        is_wrong |= pool_rows.tried(f"{name}, and again", AskedAgain(asked, lines), workers, share)
     return is_wrong
 
 
@@ -516,9 +538,10 @@ def main():
     arguments = argparse.ArgumentParser(usage=__doc__)
     arguments.add_argument("program", nargs="?", type=Path)
     arguments.add_argument("--write", action="store_true")
+    arguments.add_argument("--gate", action="store_true")
     words = arguments.parse_args()
     if words.program:
-        return try_all(words.program)
+        return pool_rows.try_all(words.program, try_rows, partial(try_memory, share=pool_rows.SHARE if words.gate else 1))
     rows = [it for it in (CRATE / "stdin").read_text().splitlines() if it and not it.startswith("#")]
     wanted = told(rows)
     if words.write:

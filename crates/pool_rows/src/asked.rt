@@ -21,11 +21,22 @@ pub enum Way {
 }
 
 /// A pool, and how it is asked.
-#[derive(Drop)]
 pub struct AskedPool {
     alloc: Global,
     pub pool: Pool,
     way: Way,
+}
+
+// Written by hand, so that it is proved once: a derived `Drop` is laid out wherever a value goes out of scope.
+impl Drop for AskedPool {
+    fn drop(self) {
+        let AskedPool {
+            alloc: _,
+            pool,
+            way: _,
+        } = self;
+        drop(pool);
+    }
 }
 
 impl Caller for AskedPool {

@@ -8,12 +8,19 @@ use pool::Pool;
 use std::alloc::{AllocError, Global};
 use telling::blocks::are_alike;
 use telling::told::{tell, tell_number, tell_refusal, tell_whether};
+use telling::words::parted;
 
 /// The pools that rows speak of.
-#[derive(Drop)]
 pub struct Pools {
     alloc: Global,
     pools: Vec<AskedPool>,
+}
+
+impl Drop for Pools {
+    fn drop(self) {
+        let Pools { alloc: _, pools } = self;
+        drop(pools);
+    }
 }
 
 impl Pools {
@@ -26,8 +33,8 @@ impl Pools {
 
     /// Carries out a row, and tells what it is to tell.
     pub fn row(&mut self, row: &str, told: &mut Vec<u8>) -> Result<(), AllocError> {
-        let (number, row) = row.split_once(' ').unwrap_or((row, ""));
-        let (word, rest) = row.split_once(' ').unwrap_or((row, ""));
+        let (number, row) = parted(row);
+        let (word, rest) = parted(row);
         let place = usize::from(number == "1");
         match word {
             "make" => self.make(place, rest, told),
@@ -39,7 +46,7 @@ impl Pools {
 
     /// Makes a pool of `ID BLOCKS`.
     fn make(&mut self, place: usize, sizes: &str, told: &mut Vec<u8>) -> Result<(), AllocError> {
-        let (id, blocks) = sizes.split_once(' ').unwrap_or((sizes, ""));
+        let (id, blocks) = parted(sizes);
         let (id, blocks) = (
             id.parse::<u32>().unwrap_or(0),
             blocks.parse::<u32>().unwrap_or(0),

@@ -1,5 +1,5 @@
 //! Rows, one after another.
-use std::alloc::AllocError;
+use telling::words::parted;
 
 /// The rows that are left of some lines.
 #[derive(Drop)]
@@ -48,26 +48,4 @@ impl<'t> Rows<'t> {
         self.rest = &[];
         lines
     }
-}
-
-/// A row's first word, and the others.
-pub fn parted(row: &str) -> (&str, &str) {
-    row.split_once(' ').unwrap_or((row, ""))
-}
-
-/// The first word as a number, which is the greatest where it is none, and the others.
-pub fn numbered(row: &str) -> (u64, &str) {
-    let (word, rest) = parted(row);
-    (word.parse::<u64>().unwrap_or(u64::MAX), rest)
-}
-
-/// The first word as a place in a list, and the others.
-pub fn placed(row: &str) -> (usize, &str) {
-    let (number, rest) = numbered(row);
-    (number as usize, rest)
-}
-
-/// Ends what a row tells.
-pub fn end_line(told: &mut Vec<u8>) -> Result<(), AllocError> {
-    told.extend_from_slice(b"\n")
 }

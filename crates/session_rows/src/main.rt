@@ -35,15 +35,9 @@
 //! `bench/session_rows.py` tells the same by plain values. Status 3 is want of memory for a line, or a failed read or write.
 #![tactic(auto)]
 
-mod ended;
-mod gates;
 mod input;
-mod left;
 mod sections;
-mod sitter;
 mod sitting;
-mod table;
-mod viewing;
 
 use input::Rows;
 use std::io;

@@ -1,18 +1,22 @@
 //! A session for each section of the rows, with a book beside it that begins alike.
 ghost use Rattle.std.specs.Prelude.{◌≡◌};
+ghost use Rattle.model.specs.State.{fresh_state};
 
-use crate::ended::Ended;
-use crate::input::{Rows, end_line, numbered};
-use crate::sitter::Sitter;
+use crate::input::Rows;
 use crate::sitting::seated;
-use crate::table::Table;
-use session::{Book, Opening, Pool, Session};
+use base::refusal::Refusal;
+use session::{Opening, Session};
+use session_books::ended::Ended;
+use session_books::fresh::fresh_session;
+use session_seats::sitter::Sitter;
+use session_seats::table::Table;
 use std::alloc::{AllocError, Global};
 use std::marker::Brand;
 use std::sync::Wait;
 use std::sync::atomic::AtomicBool;
 use std::thread::Threads;
-use telling::told::{tell, tell_refusal};
+use telling::told::{end_line, tell, tell_refusal};
+use telling::words::numbered;
 
 /// Runs all rows, each section from its `open BLOCKS LIMIT` on.
 pub fn run<R: Threads + Wait + Sync>(
@@ -44,55 +48,51 @@ fn open<R: Threads + Wait + Sync>(
     let (blocks, limit) = numbered(sizes);
     let (limit, _) = numbered(limit);
     let blocks = (blocks & 0xffff_ffff) as u32;
-    let Ok(pool) = Pool::create(alloc, 1, blocks) else {
-        return Err(AllocError);
-    };
-    match Pool::create(alloc, 1, blocks) {
-        Ok(other) => section::<Brand, R>(rt, alloc, pool, other, blocks, limit, rows, told),
-        Err(_) => {
-            drop(pool);
-            Err(AllocError)
-        }
-    }
+    section::<Brand, R>(rt, alloc, blocks, limit, rows, told)
 }
 
-/// Runs the section of a session of a pool, beside a book of another.
+/// Runs the section of a session with room for so many calls, and of a book beside it.
 fn section<K: Opening + Send + Sync, R: Threads + Wait + Sync>(
     rt: &R,
     alloc: Global,
-    pool: Pool,
-    other: Pool,
     blocks: u32,
     limit: u64,
     rows: &mut Rows,
     told: &mut Vec<u8>,
 ) -> Result<(), AllocError>
-    requires opening { pool.state ≡ K.opening }
-    requires other { other.state ≡ K.opening }
+    requires opening { fresh_state 1 blocks ≡ K.opening }
     requires limit { limit ≡ K.limit }
 {
-    let Ok(mut books) = Vec::with_capacity(alloc, 2) else {
-        drop(other);
-        drop(pool);
-        return Err(AllocError);
+    let mut ended: Ended<K> = Ended::new(alloc, blocks);
+    let outcome = match ended.add_fresh(blocks, limit) {
+        Ok(()) => beside(rt, alloc, blocks, limit, &mut ended, rows, told),
+        Err(refusal) => refused(alloc, told, refusal),
     };
-    match Book::<K>::open(alloc, other, limit) {
-        Ok(book) => books.push_reserved(book),
-        Err((refusal, other)) => {
-            drop(other);
-            drop(pool);
-            tell_refusal(alloc, told, refusal)?;
-            return end_line(told);
-        }
-    }
-    match Session::<K>::open(alloc, pool, limit) {
-        Ok(session) => sat(rt, alloc, session, books, blocks, rows, told),
-        Err((refusal, pool)) => {
-            drop(pool);
-            drop(books);
-            tell_refusal(alloc, told, refusal)?;
-            end_line(told)
-        }
+    drop(ended);
+    outcome
+}
+
+fn refused(alloc: Global, told: &mut Vec<u8>, refusal: Refusal) -> Result<(), AllocError> {
+    tell_refusal(alloc, told, refusal)?;
+    end_line(told)
+}
+
+/// Opens the session beside the book, and runs the section.
+fn beside<K: Opening + Send + Sync, R: Threads + Wait + Sync>(
+    rt: &R,
+    alloc: Global,
+    blocks: u32,
+    limit: u64,
+    ended: &mut Ended<K>,
+    rows: &mut Rows,
+    told: &mut Vec<u8>,
+) -> Result<(), AllocError>
+    requires opening { fresh_state 1 blocks ≡ K.opening }
+    requires limit { limit ≡ K.limit }
+{
+    match fresh_session(alloc, blocks, limit) {
+        Ok(session) => sat(rt, alloc, session, ended, rows, told),
+        Err(refusal) => refused(alloc, told, refusal),
     }
 }
 
@@ -101,32 +101,14 @@ fn sat<K: Opening + Send + Sync, R: Threads + Wait + Sync>(
     rt: &R,
     alloc: Global,
     session: Session<K>,
-    mut books: Vec<Book<K>>,
-    blocks: u32,
+    ended: &mut Ended<K>,
     rows: &mut Rows,
     told: &mut Vec<u8>,
 ) -> Result<(), AllocError> {
-    let mut sitters = Vec::new(alloc);
-    let outcome = begun(rt, alloc, &session, &mut sitters, rows, told);
-    let room = books.reserve(1);
-    let book = session.end();
-    if outcome.is_err() || room.is_err() {
-        drop(book);
-        drop(books);
-        drop(sitters);
-        return Err(AllocError);
-    }
-    books.push_reserved(book);
-    let mut ended = Ended {
-        alloc,
-        blocks,
-        books,
-        sitters,
-        left: Vec::new(alloc),
-    };
-    let outcome = on_books(&mut ended, rows, told);
-    drop(ended);
-    outcome
+    let outcome = begun(rt, alloc, &session, &mut ended.sitters, rows, told);
+    ended.end(session)?;
+    outcome?;
+    on_books(ended, rows, told)
 }
 
 fn begun<K: Opening + Send + Sync, R: Threads + Wait + Sync>(

@@ -1,12 +1,13 @@
 //! Rows on a session, up to its end.
-use crate::input::{Rows, end_line, parted, placed};
-use crate::sitter::Sitter;
-use crate::table::Table;
+use crate::input::Rows;
 use session::{Opening, View};
+use session_seats::sitter::Sitter;
+use session_seats::table::Table;
 use std::alloc::AllocError;
 use std::sync::Wait;
 use std::thread::{Threads, for_each_mut};
-use telling::told::{tell, tell_refusal};
+use telling::told::{end_line, tell, tell_refusal};
+use telling::words::{parted, placed};
 
 /// Carries out rows on a session up to `end`.
 pub fn seated<K: Opening + Send + Sync, R: Threads + Wait + Sync>(

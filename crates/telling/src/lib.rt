@@ -1,4 +1,4 @@
-//! What programs of rows share: texts of what a row tells, script lines by themselves, and pools compared by their blocks.
+//! What programs of rows share: the words of a row, texts of what it tells, script lines by themselves, and pools compared by their blocks.
 #![tactic(auto)]
 
 pub mod blocks;
@@ -6,3 +6,4 @@ pub mod dropped;
 pub mod lines;
 pub mod replies;
 pub mod told;
+pub mod words;

@@ -6,6 +6,11 @@ pub fn tell(told: &mut Vec<u8>, text: &str) -> Result<(), AllocError> {
     told.extend_from_slice(text.as_bytes())
 }
 
+/// Ends what a row tells.
+pub fn end_line(told: &mut Vec<u8>) -> Result<(), AllocError> {
+    tell(told, "\n")
+}
+
 pub fn tell_whether(told: &mut Vec<u8>, is_so: bool) -> Result<(), AllocError> {
     tell(told, if is_so { "yes" } else { "no" })
 }

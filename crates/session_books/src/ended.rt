@@ -1,25 +1,41 @@
 //! Rows on the book of a session that has ended, and on the pool that it leaves.
-use crate::input::{end_line, parted, placed};
+ghost use Rattle.std.specs.Prelude.{◌≡◌};
+ghost use Rattle.model.specs.State.{fresh_state};
+
+use crate::fresh::fresh_book;
 use crate::left;
-use crate::sitter::Sitter;
-use crate::table::tell_called;
 use base::refusal::Refusal;
-use model::request::Request;
-use session::{Book, Call, Closed, Entered, Opening, Seat, enter_call};
+use session::{Book, Call, Closed, Entered, Opening, Seat, Session, enter_call};
+use session_seats::sitter::Sitter;
+use session_seats::table::tell_called;
 use std::alloc::{AllocError, Global};
-use telling::dropped::drop_request;
 use telling::lines::requests_of;
-use telling::told::{tell, tell_number, tell_refusal};
+use telling::told::{end_line, tell, tell_number, tell_refusal};
+use telling::words::{parted, placed};
 
 /// Books, of which the last is asked, with all seats, and what was closed, of which the last is asked too.
-#[derive(Drop)]
 pub struct Ended<K: Opening> {
-    pub alloc: Global,
-    /// How many blocks each pool has.
-    pub blocks: u32,
-    pub books: Vec<Book<K>>,
+    alloc: Global,
+    blocks: u32,
+    books: Vec<Book<K>>,
     pub sitters: Vec<Sitter<K>>,
-    pub left: Vec<Closed>,
+    left: Vec<Closed>,
+}
+
+// Written by hand, so that it is proved once: a derived `Drop` is expanded again in each crate that drops the type.
+impl<K: Opening> Drop for Ended<K> {
+    fn drop(self) {
+        let Ended {
+            alloc: _,
+            blocks: _,
+            books,
+            sitters,
+            left,
+        } = self;
+        drop(left);
+        drop(sitters);
+        drop(books);
+    }
 }
 
 /// Tells what became of a call, and whether it has opened a view.
@@ -40,6 +56,41 @@ fn tell_entered(
 }
 
 impl<K: Opening> Ended<K> {
+    /// No books, whose pools have so many blocks, and no seats.
+    pub fn new(alloc: Global, blocks: u32) -> Ended<K> {
+        Ended {
+            alloc,
+            blocks,
+            books: Vec::new(alloc),
+            sitters: Vec::new(alloc),
+            left: Vec::new(alloc),
+        }
+    }
+
+    /// Adds a book of a fresh pool.
+    pub fn add_fresh(&mut self, blocks: u32, limit: u64) -> Result<(), Refusal>
+        requires opening { fresh_state 1 blocks ≡ K.opening }
+        requires limit { limit ≡ K.limit }
+    {
+        let book = fresh_book(self.alloc, blocks, limit)?;
+        self.add(book)?;
+        Ok(())
+    }
+
+    /// Adds the book of a session, which ends.
+    pub fn end(&mut self, session: Session<K>) -> Result<(), AllocError> {
+        self.add(session.end())
+    }
+
+    fn add(&mut self, book: Book<K>) -> Result<(), AllocError> {
+        if self.books.reserve(1).is_err() {
+            drop(book);
+            return Err(AllocError);
+        }
+        self.books.push_reserved(book);
+        Ok(())
+    }
+
     /// Carries out a row.
     pub fn row(&mut self, row: &str, told: &mut Vec<u8>) -> Result<(), AllocError> {
         let (word, rest) = parted(row);
@@ -99,19 +150,12 @@ impl<K: Opening> Ended<K> {
     /// Enters the call of `SEAT LINE`.
     fn enter(&mut self, rest: &str, told: &mut Vec<u8>) -> Result<(), AllocError> {
         let (place, line) = placed(rest);
-        let mut requests = requests_of(self.alloc, line)?;
-        let Some(request) = requests.pop() else {
+        let (Some(book), Some(sitter)) = (self.books.last_mut(), self.sitters.get_mut(place)) else {
             return tell(told, "none");
         };
-        match (self.books.last_mut(), self.sitters.get_mut(place)) {
-            (Some(book), Some(sitter)) => {
-                let entered = entered(self.alloc, book, sitter, request);
-                tell_entered(self.alloc, entered, told)
-            }
-            _ => {
-                drop_request(request);
-                tell(told, "none")
-            }
+        match &mut sitter.seat {
+            Some(seat) => enter_line(self.alloc, book, seat, line, told),
+            None => tell(told, "none"),
         }
     }
 
@@ -148,19 +192,23 @@ impl<K: Opening> Ended<K> {
     }
 }
 
-/// Enters a call of a seat; NoView where the seat was handed on.
-fn entered<K: Opening>(
+/// Enters the call of a line.
+fn enter_line<K: Opening>(
     alloc: Global,
     book: &mut Book<K>,
-    sitter: &mut Sitter<K>,
-    request: Request,
-) -> Result<Entered, Refusal> {
-    let Some(seat) = &mut sitter.seat else {
-        drop_request(request);
-        return Err(Refusal::NoView);
+    seat: &mut Seat<K>,
+    line: &str,
+    told: &mut Vec<u8>,
+) -> Result<(), AllocError> {
+    let mut requests = requests_of(alloc, line)?;
+    let Some(request) = requests.pop() else {
+        return tell(told, "none");
     };
-    let call = Call::new(alloc, seat, request)?;
-    enter_call(alloc, book, seat, call)
+    let entered = match Call::new(alloc, seat, request) {
+        Ok(call) => enter_call(alloc, book, seat, call),
+        Err(refusal) => Err(refusal),
+    };
+    tell_entered(alloc, entered, told)
 }
 
 /// The seats of these numbers, in their order.

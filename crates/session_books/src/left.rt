@@ -1,5 +1,4 @@
 //! Rows on the pool and the history that a book has left.
-use crate::input::placed;
 use model::entry::{Entry, KeptReply};
 use model::reply::Reply;
 use model::request::Request;
@@ -12,6 +11,7 @@ use telling::dropped::{drop_reply, drop_request};
 use telling::lines::{ask, ask_silently};
 use telling::replies::{lacks_memory, tell_kept};
 use telling::told::{tell, tell_number, tell_refusal, tell_whether};
+use telling::words::placed;
 
 /// A pool that is asked.
 #[derive(Drop)]

@@ -1,5 +1,4 @@
 //! What all who sit at a session share, and what they tell of it.
-use crate::input::placed;
 use base::refusal::Refusal;
 use session::{Opening, Receipt, Session};
 use std::alloc::{AllocError, Global};
@@ -7,6 +6,7 @@ use std::sync::Wait;
 use std::sync::atomic::AtomicBool;
 use telling::replies::tell_kept;
 use telling::told::{tell, tell_number, tell_refusal};
+use telling::words::placed;
 
 /// A session, and flags by which threads wait for one another.
 #[derive(Drop)]

@@ -1,7 +1,11 @@
-//! Gates of batches.
-use session::{Gate, Turns};
+//! Gates of batches, and rows on the flags by which threads wait for one another.
+use crate::table::Table;
+use session::{Gate, Opening, Turns};
+use std::alloc::AllocError;
+use std::sync::Wait;
 use std::sync::atomic::{AtomicBool, Ordering};
 use std::thread::yield_now;
+use telling::told::{tell, tell_whether};
 
 /// How long a batch stands once the flag that it waits for is raised.
 const PAUSE: u32 = 1000;
@@ -41,7 +45,7 @@ fn pause() {
 }
 
 /// Whether a flag is set within a million looks.
-pub fn comes_to_be_set(flag: &AtomicBool) -> bool {
+fn comes_to_be_set(flag: &AtomicBool) -> bool {
     for _ in 0..1_000_000u32 {
         if flag.load(Ordering::SeqCst) {
             return true;
@@ -60,4 +64,29 @@ pub fn turns_left(gate: &mut Turns) -> u64 {
         }
     }
     turns
+}
+
+/// Raises a flag.
+pub fn raise<K: Opening, R: Wait>(
+    table: &Table<K, R>,
+    flag: &str,
+    told: &mut Vec<u8>,
+) -> Result<(), AllocError> {
+    if let (Some(flag), _) = table.flag(flag) {
+        flag.store(true, Ordering::SeqCst);
+    }
+    tell(told, "ok")
+}
+
+/// Waits for a flag.
+pub fn wait<K: Opening, R: Wait>(
+    table: &Table<K, R>,
+    flag: &str,
+    told: &mut Vec<u8>,
+) -> Result<(), AllocError> {
+    let is_set = match table.flag(flag) {
+        (Some(flag), _) => comes_to_be_set(flag),
+        _ => false,
+    };
+    tell_whether(told, is_set)
 }
