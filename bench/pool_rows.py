@@ -304,10 +304,14 @@ class AskedAgain:
         return 0
 
 
+@lru_cache(maxsize=None)
+def number_of_tree():
+    return int(hashlib.sha256(order_of_tree().encode()).hexdigest(), 16)
+
+
 def chosen(numbers, share):
     """One of so many numbers. Which, the digest of HEAD's tree says: nobody chooses them, and the next commit has other ones."""
-    first = int(hashlib.sha256(order_of_tree().encode()).hexdigest(), 16) % share
-    return list(numbers)[first::share]
+    return list(numbers)[number_of_tree() % share :: share]
 
 
 def tried(name, subject, workers, share):
