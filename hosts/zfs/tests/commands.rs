@@ -155,6 +155,37 @@ fn a_stream_makes_the_same_file_system_elsewhere() {
     }
 }
 
+/// As `zfs_receive_one` of libzfs 2.1.11 and `dmu_recv_begin_check` of its kernel module have it.
+#[test]
+fn a_snapshot_that_is_there_is_passed_over_by_its_guid() {
+    let world = World::with_pool();
+    world.pool("back");
+    world.run("zfs create tank/a
+        zfs snapshot tank/a@1
+        zfs yuz-write tank/a 0 0 1 61
+        zfs snapshot tank/a@2
+        zfs snapshot tank/a@3");
+    let steps = world.stream(&["-I", "@1", "tank/a@3"]);
+    let step = world.stream(&["-i", "@1", "tank/a@2"]);
+    for (stream, target) in [(&world.stream(&["tank/a@1"]), "back/a"), (&steps, "back/a")] {
+        assert_eq!(world.receive(stream, &[target]).status, 0);
+    }
+    let before = world.state();
+    for words in [["-v", "back/a@1"], ["-vF", "back/a@3"]] {
+        let said = world.receive(&step, &words);
+        let told = format!("receiving incremental stream of tank/a@2 into {0}\nsnap {0} already exists; ignoring\nreceived 0B stream in 1 seconds (0B/sec)\n", words[1]);
+        assert_eq!((said.status, said.out, said.err), (0, told, String::new()));
+    }
+    let said = world.receive(&steps, &["-v", "back/a"]);
+    assert_eq!((said.status, said.out.matches("already exists; ignoring").count()), (0, 2), "{said:?}");
+    assert_eq!(world.state(), before);
+    let others = world.receive(&world.stream(&["-i", "@2", "tank/a@3"]), &["-n", "back/a@1"]);
+    assert_eq!(others, Said { status: 0, out: String::new(), err: String::new() });
+    world.run("zfs destroy back/a@2");
+    let said = world.receive(&step, &["back/a@3"]);
+    assert_eq!((said.status, said.err.as_str()), (1, "cannot restore to back/a@3: destination already exists\n"));
+}
+
 #[test]
 fn a_replication_stream_has_the_tree_with_its_properties() {
     let world = World::with_pool();
