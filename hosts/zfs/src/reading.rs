@@ -317,7 +317,7 @@ fn users(values: &Values) -> impl Iterator<Item = String> + '_ {
     values.keys().filter(|name| name.contains(':')).cloned()
 }
 
-fn own(local: &Values, received: &Values, hidden: &BTreeSet<String>, property: &str) -> Option<Value> {
+pub fn own(local: &Values, received: &Values, hidden: &BTreeSet<String>, property: &str) -> Option<Value> {
     let found = |values: &Values, source| values.get(property).map(|text| Value { text: text.clone(), source });
     found(local, Source::Local).or_else(|| found(received, Source::Received).filter(|_| !hidden.contains(property)))
 }

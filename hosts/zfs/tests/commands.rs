@@ -186,6 +186,46 @@ fn a_snapshot_that_is_there_is_passed_over_by_its_guid() {
     assert_eq!((said.status, said.err.as_str()), (1, "cannot restore to back/a@3: destination already exists\n"));
 }
 
+/// The texts are those of `set_callback`, `zfs_mount_at` and `zfs_mount_and_share` of OpenZFS 2.1.11. What is said of the mount has been done before.
+#[test]
+fn a_mountpoint_that_is_a_file_is_set_and_not_mounted() {
+    let world = World::with_pool();
+    let file = world.folder.join("tank.img").to_str().unwrap().to_owned();
+    world.run("zfs create -o mountpoint=legacy tank/a
+        zfs create -o mountpoint=none tank/b");
+    let no_folder = |name: &str, rest: &str| Said { status: 1, out: String::new(), err: format!("cannot mount '{name}': Not a directory\n{rest}\n") };
+    let set = "property may be set but unable to remount filesystem";
+    assert_eq!(world.line("zfs set sharenfs=on tank/a tank/b"), Said { status: 0, out: String::new(), err: String::new() });
+    world.run("zfs set sharenfs=off tank/a");
+    assert_eq!(world.line(&format!("zfs set mountpoint={file} tank/a")), no_folder("tank/a", set));
+    assert_eq!(value(&world, "mountpoint", "tank/a"), file);
+    for value in ["on", ""] {
+        assert_eq!(world.line(&format!("zfs set sharenfs={value} tank/a")), no_folder("tank/a", set));
+    }
+    assert_eq!(value(&world, "mounted", "tank/a"), "no");
+    let created = "filesystem successfully created, but not mounted";
+    assert_eq!(world.line(&format!("zfs create -o mountpoint={file} tank/c")), no_folder("tank/c", created));
+    world.run("zfs snapshot tank/c@s");
+    assert_eq!(world.line(&format!("zfs clone -o mountpoint={file} tank/c@s tank/d")), no_folder("tank/d", created));
+    assert_eq!(world.line("zfs mount tank/c").err, "cannot mount 'tank/c': Not a directory\n");
+    assert_eq!(names(&world, "tank"), ["tank", "tank/a", "tank/b", "tank/c", "tank/c@s", "tank/d"]);
+}
+
+#[test]
+fn a_client_in_a_mountpoint_keeps_it() {
+    let world = World::with_pool();
+    let folder = world.folder.join("here").to_str().unwrap().to_owned();
+    std::fs::create_dir(&folder).unwrap();
+    world.run(&format!("zfs create -o mountpoint={folder} tank/a"));
+    for line in ["set mountpoint=/elsewhere tank/a", "set canmount=off tank/a", "inherit mountpoint tank/a"] {
+        let said: Said = world.command("zfs", line.split(' ')).current_dir(&folder).output().unwrap().into();
+        assert_eq!((said.status, said.err), (1, format!("cannot unmount '{folder}': pool or dataset is busy\n")), "{line}");
+    }
+    assert_eq!(world.run("zfs get -H -o value mountpoint,canmount,mounted tank/a"), format!("{folder}\non\nyes\n"));
+    let said: Said = world.command("zfs", ["set", "canmount=noauto", "tank/a"]).current_dir(&folder).output().unwrap().into();
+    assert_eq!((said.status, value(&world, "mounted", "tank/a").as_str()), (0, "yes"));
+}
+
 #[test]
 fn a_replication_stream_has_the_tree_with_its_properties() {
     let world = World::with_pool();

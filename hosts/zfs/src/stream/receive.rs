@@ -274,14 +274,16 @@ impl Host {
         if let Some(properties) = &step.properties {
             told.extend(self.receive_properties(manner, base, properties));
         }
+        let affected = self.affected(base, &Property::Native(Native::MountPoint)).filter(|_| !is_new);
         self.override_properties(manner, arrived, base)?;
+        told.extend(affected.iter().flat_map(|it| self.settle_mounts(it)));
         if !manner.skips_holds {
             for tag in &step.holds {
                 self.hold(&arrived.destination, tag, manner.clock).trying(|| Action::Hold(arrived.destination.clone()))?;
             }
         }
         if is_new && !manner.is_unmounted {
-            self.mount(base);
+            told.extend(self.mount_new(base).err());
         }
         Ok(told)
     }
