@@ -223,8 +223,14 @@ impl Host {
         let snapshot = from.snapshot().ok_or(Refusal::NotSnapshot)?;
         let path = &self.tree.get(base).ok_or(Refusal::NoDataset)?.path;
         self.layer.order(&format!("bookmark {} {path}#{component}", from.path))?;
-        let bookmark =
-            Bookmark { name: name.to_owned(), component, guid: snapshot.guid, creation: snapshot.creation, create_txg: snapshot.create_txg };
+        let bookmark = Bookmark {
+            name: name.to_owned(),
+            component,
+            guid: snapshot.guid,
+            creation: snapshot.creation,
+            create_txg: snapshot.create_txg,
+            referenced: self.layer.get(&from.path, Property::Referenced)?,
+        };
         self.tree.edit(base).ok_or(Refusal::NoDataset)?.bookmarks.push(Rc::new(bookmark));
         Ok(())
     }

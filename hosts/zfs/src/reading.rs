@@ -110,6 +110,9 @@ impl Host {
         if native.is_limit() {
             return Some(self.limit(dataset, native));
         }
+        if let (Part::Bookmark(bookmark), Native::Referenced | Native::LogicalReferenced) = (&dataset.part, native) {
+            return Some(Value::plain(bookmark.referenced.to_string()));
+        }
         if let Some(number) = number(native) {
             return Some(self.layer.get(&dataset.path, number).map_or_else(|_| Value::none(), |it| Value::plain(it.to_string())));
         }

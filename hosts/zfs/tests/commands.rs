@@ -211,6 +211,23 @@ fn a_mountpoint_that_is_a_file_is_set_and_not_mounted() {
     assert_eq!(names(&world, "tank"), ["tank", "tank/a", "tank/b", "tank/c", "tank/c@s", "tank/d"]);
 }
 
+/// A bookmark keeps what its snapshot referenced, as the feature `bookmark_written` has it; so has a bookmark of it.
+#[test]
+fn a_bookmark_tells_what_its_snapshot_referenced() {
+    let world = World::with_pool();
+    world.run("zfs create tank/a
+        zfs yuz-write tank/a 0 0 8 61
+        zfs snapshot tank/a@s
+        zfs bookmark tank/a@s tank/a#one
+        zfs bookmark tank/a#one tank/a#two");
+    let referenced = value(&world, "referenced", "tank/a@s");
+    world.run("zfs destroy tank/a@s
+        zfs yuz-write tank/a 0 0 9 62");
+    let told = world.run("zfs list -Hp -t bookmark -o name,used,avail,refer,lrefer,mountpoint");
+    assert_eq!(told, ["one", "two"].map(|name| format!("tank/a#{name}\t-\t-\t{referenced}\t{referenced}\t-\n")).concat());
+    assert_ne!(value(&world, "referenced", "tank/a"), referenced);
+}
+
 #[test]
 fn a_client_in_a_mountpoint_keeps_it() {
     let world = World::with_pool();

@@ -118,15 +118,20 @@ fn rename_file_system(host: &mut Host, source: &str, target: &str, folder: Optio
     } else {
         host.move_file_system(source, target).trying(action)?;
     }
+    let renamed = mounted.into_iter().map(|(old, place)| (format!("{target}{}", &old[source.len()..]), place));
+    Ok(mounted_again(host, renamed, folder.is_some()))
+}
+
+/// What was mounted is mounted in its new place, or left in the old one. What is told of those that can't be mounted.
+fn mounted_again(host: &mut Host, renamed: impl Iterator<Item = (String, String)>, moves: bool) -> Vec<String> {
     let mut told = Vec::new();
-    for (old, place) in mounted {
-        let name = format!("{target}{}", &old[source.len()..]);
-        match folder {
-            Some(_) => told.extend(host.mount(&name).err()),
-            None => host.leave_mounted(&name, place),
+    for (name, place) in renamed {
+        match moves {
+            true => told.extend(host.mount(&name).err()),
+            false => host.leave_mounted(&name, place),
         }
     }
-    Ok(told)
+    told
 }
 
 /// How long the names of a file system and of its snapshots are.

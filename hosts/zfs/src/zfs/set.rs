@@ -8,7 +8,7 @@ use crate::mounting::Affected;
 use crate::name;
 use crate::property::{Kinds, Native, Property};
 use crate::protocol::Status;
-use crate::setting::{applies, check, settings, Checked};
+use crate::setting::{applies, check, settings, Checked, Setting};
 use crate::usage::{Usage, ZfsCommand};
 use crate::world::PoolThread;
 use std::sync::Arc;
@@ -93,19 +93,22 @@ pub fn set(call: &mut Call, words: &[String]) -> Outcome {
         other => other,
     })?;
     let folder = call.request.folder.clone();
-    with_each(call, names, move |host, name| {
-        let action = || Action::SetProperty(name.to_owned());
-        let kind = host.open(name)?.kind();
-        let checked = settings.iter().map(|setting| check(setting, kind, false)).collect::<Result<Vec<_>, _>>().trying(action)?;
-        let acts = |checked: &Checked| !matches!(checked, Checked::Native(Native::CanMount, value) if value != "off");
-        let properties: Vec<Property> = checked.iter().filter(|it| acts(it)).map(Checked::property).collect();
-        let affected: Vec<Affected> = properties.iter().filter_map(|property| host.affected(name, property)).collect();
-        affected.iter().try_for_each(|it| host.check_change(it, &folder))?;
-        checked.iter().try_for_each(|setting| host.set(name, setting)).trying(action)?;
-        let mut told: Vec<String> = affected.iter().flat_map(|it| host.settle_mounts(it)).collect();
-        told.extend((!told.is_empty()).then(|| "property may be set but unable to remount filesystem".to_owned()));
-        Ok(told)
-    })
+    with_each(call, names, move |host, name| set_one(host, name, &settings, &folder))
+}
+
+/// Sets properties of a dataset. What is told of mounts that fail after that.
+fn set_one(host: &mut Host, name: &str, settings: &[Setting], folder: &str) -> Outcome<Vec<String>> {
+    let action = || Action::SetProperty(name.to_owned());
+    let kind = host.open(name)?.kind();
+    let checked = settings.iter().map(|setting| check(setting, kind, false)).collect::<Result<Vec<_>, _>>().trying(action)?;
+    let acts = |checked: &Checked| !matches!(checked, Checked::Native(Native::CanMount, value) if value != "off");
+    let properties: Vec<Property> = checked.iter().filter(|it| acts(it)).map(Checked::property).collect();
+    let affected: Vec<Affected> = properties.iter().filter_map(|property| host.affected(name, property)).collect();
+    affected.iter().try_for_each(|it| host.check_change(it, folder))?;
+    checked.iter().try_for_each(|setting| host.set(name, setting)).trying(action)?;
+    let mut told: Vec<String> = affected.iter().flat_map(|it| host.settle_mounts(it)).collect();
+    told.extend((!told.is_empty()).then(|| "property may be set but unable to remount filesystem".to_owned()));
+    Ok(told)
 }
 
 pub fn inherit(call: &mut Call, words: &[String]) -> Outcome {
