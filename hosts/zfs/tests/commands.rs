@@ -228,6 +228,27 @@ fn a_bookmark_tells_what_its_snapshot_referenced() {
     assert_ne!(value(&world, "referenced", "tank/a"), referenced);
 }
 
+/// As `print_list_stats` of OpenZFS 2.1.11 has it: the size of each device, and the space of what stands at the top.
+#[test]
+fn a_list_of_pools_has_their_devices() {
+    let world = World::with_pool();
+    let files = ["one", "two"].map(|name| world.folder.join(name).to_str().unwrap().to_owned());
+    files.iter().zip([100, 80]).for_each(|(file, megabytes)| std::fs::File::create(file).unwrap().set_len(megabytes << 20).unwrap());
+    world.done("zpool", ["create", "-f", "both", "mirror", &files[0], &files[1]]);
+    let told = world.run("zpool list -vHp both");
+    let lines: Vec<Vec<&str>> = told.lines().map(|line| line.split('\t').collect()).collect();
+    let (size, used, free) = (lines[0][1], lines[0][2], lines[0][3]);
+    assert_eq!((lines.len(), size), (4, "83886080"));
+    assert_eq!(lines[1], ["", "mirror-0", size, used, free, "-", "-", "0", "0", "-", "ONLINE"]);
+    for (line, (file, bytes)) in lines[2..].iter().zip(files.iter().zip(["104857600", "83886080"])) {
+        assert_eq!(*line, ["", file, bytes, "-", "-", "-", "-", "-", "-", "-", "ONLINE"]);
+    }
+    let readable = world.run("zpool list -v tank");
+    let name = world.folder.join("tank.img").to_str().unwrap().to_owned();
+    assert!(readable.lines().nth(2).is_some_and(|line| line.starts_with(&format!("  {name}     1G")) && line.ends_with("0%  0.00%      -    ONLINE")), "{readable}");
+    assert!(world.run("zpool iostat -vHp both").contains(&format!("mirror-0\t{used}\t{free}\t0")));
+}
+
 #[test]
 fn a_client_in_a_mountpoint_keeps_it() {
     let world = World::with_pool();
