@@ -221,20 +221,31 @@ impl Host {
         }
     }
 
-    /// A mountpoint that is inherited has the rest of the name behind it.
+    /// A mountpoint that is inherited has the rest of the name behind it. The pool's alternate root stands before it.
     pub fn mount_point(&self, name: &str) -> (String, Source) {
-        mount_point_in(&self.tree, name)
+        let (place, source) = mount_point_in(&self.tree, name);
+        (self.rooted(place), source)
+    }
+
+    fn rooted(&self, place: String) -> String {
+        let root = self.facts.properties.get("altroot").map_or("", |root| root.trim_end_matches('/'));
+        if root.is_empty() || !place.starts_with('/') { place } else { format!("{root}{}", place.trim_end_matches('/')) }
     }
 
     /// The file systems that are mounted, and where.
     pub fn mounted(&self) -> Vec<(String, String)> {
         let names = self.tree.iter().map(|(name, _)| name);
-        names.filter_map(|name| mounted_at(&self.tree, name).map(|place| (name.clone(), place))).collect()
+        names.filter_map(|name| self.mounted_at(&self.tree, name).map(|place| (name.clone(), place))).collect()
     }
 
     /// Where a file system was mounted at the last sync.
     pub fn settled_place(&self, name: &str) -> Option<String> {
-        mounted_at(self.settled(), name)
+        self.mounted_at(self.settled(), name)
+    }
+
+    fn mounted_at(&self, tree: &Tree, name: &str) -> Option<String> {
+        let file_system = tree.get(name).filter(|it| it.is_mounted)?;
+        Some(file_system.mounted_at.clone().unwrap_or_else(|| self.rooted(mount_point_in(tree, name).0)))
     }
 
     fn written_since(&mut self, dataset: &Dataset, since: &str) -> Value {
@@ -276,11 +287,6 @@ impl Host {
         };
         values.get(&property.to_string()).map_or_else(Value::none, |text| Value::plain(text.clone()))
     }
-}
-
-fn mounted_at(tree: &Tree, name: &str) -> Option<String> {
-    let file_system = tree.get(name).filter(|it| it.is_mounted)?;
-    Some(file_system.mounted_at.clone().unwrap_or_else(|| mount_point_in(tree, name).0))
 }
 
 fn mount_point_in(tree: &Tree, name: &str) -> (String, Source) {

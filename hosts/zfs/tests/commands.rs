@@ -249,6 +249,23 @@ fn a_list_of_pools_has_their_devices() {
     assert!(world.run("zpool iostat -vHp both").contains(&format!("mirror-0\t{used}\t{free}\t0")));
 }
 
+/// As `zfs_prop_get` of libzfs 2.1.11 has it.
+#[test]
+fn an_alternate_root_stands_before_mountpoints() {
+    let world = World::with_pool();
+    world.run("zfs create tank/a
+        zfs create -o mountpoint=/ tank/b
+        zfs create -o mountpoint=legacy tank/c
+        zpool export tank
+        zpool import -R /nowhere/ tank");
+    let places = "tank\t/nowhere/tank\ntank/a\t/nowhere/tank/a\ntank/b\t/nowhere\ntank/c\tlegacy\n";
+    assert_eq!(world.run("zfs list -H -o name,mountpoint"), places);
+    assert!(world.run("zfs mount").contains("tank/a                          /nowhere/tank/a\n"));
+    world.run("zpool export tank
+        zpool import tank");
+    assert_eq!(value(&world, "mountpoint", "tank/a"), "/tank/a");
+}
+
 #[test]
 fn a_client_in_a_mountpoint_keeps_it() {
     let world = World::with_pool();

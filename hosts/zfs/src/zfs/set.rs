@@ -46,7 +46,8 @@ fn found_by_pool(call: &Call, names: &[String], kinds: Kinds) -> (Groups, Vec<Fa
 
 /// Does something with each operand, or nothing: then it is told of each what is wrong with it. What is done may have something that is told of it.
 fn with_each(call: &Call, names: &[String], each: impl Fn(&mut Host, &str) -> Outcome<Vec<String>> + Clone + Send + 'static) -> Outcome {
-    let (groups, mut wrong) = found_by_pool(call, names, Kinds::FVS);
+    let (mut groups, mut wrong) = found_by_pool(call, names, Kinds::FVS);
+    groups.sort_by(|(one, _), (other, _)| one.name.cmp(&other.name));
     for (pool, mut names) in groups {
         let (each, is_wrong) = (each.clone(), !wrong.is_empty());
         let done = call.change(&pool, move |host| {
