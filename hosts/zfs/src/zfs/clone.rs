@@ -1,5 +1,6 @@
 //! `zfs clone` and `zfs promote`.
 
+use super::create::not_mounted;
 use super::walk;
 use crate::call::Call;
 use crate::dataset::Kind;
@@ -35,10 +36,10 @@ pub fn clone(call: &mut Call, words: &[String]) -> Outcome {
         return Err(Failure::Cannot(action(), reason));
     }
     let (has_parents, clock) = (options.has('p'), call.clock());
-    call.change(&pool, move |host| {
+    let mounted = call.change(&pool, move |host| {
         let action = || Action::Create(target.clone());
         if has_parents && host.tree.has(&target) {
-            return Ok(());
+            return Ok(Ok(()));
         }
         if has_parents {
             host.make_parents(&target, clock).trying(action)?;
@@ -46,16 +47,16 @@ pub fn clone(call: &mut Call, words: &[String]) -> Outcome {
         make(host, &source, &target, clock, &settings).trying(action)
     })?;
     call.log(&pool);
-    Ok(())
+    mounted.map_err(|text| not_mounted(&text))
 }
 
-fn make(host: &mut Host, source: &str, target: &str, clock: i64, settings: &[Setting]) -> Result<(), Reason> {
+/// Makes a clone, and says why it isn't mounted where that can't be.
+fn make(host: &mut Host, source: &str, target: &str, clock: i64, settings: &[Setting]) -> Result<Result<(), String>, Reason> {
     let kind = host.tree.get(name::base(source)).map_or(Kind::FileSystem, |it| it.kind);
     let checked = settings.iter().map(|setting| check(setting, kind, false)).collect::<Result<Vec<_>, _>>()?;
     host.make_clone(source, target, clock)?;
     checked.iter().try_for_each(|setting| host.set(target, setting))?;
-    host.mount(target);
-    Ok(())
+    Ok(host.mount_new(target))
 }
 
 impl Host {
