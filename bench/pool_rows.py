@@ -35,7 +35,8 @@ from pathlib import Path
 import plain
 import refused
 from judge import Judge
-from row_words import MASK, mixed
+from plain import Refused
+from row_words import MASK, error, mixed
 from wrong_bodies import order_of_tree
 
 ROOT = Path(__file__).resolve().parent.parent
@@ -133,6 +134,18 @@ class Plain:
 
     def do_left(self, place, line, _given):
         return next(iter(self.pools[place].lawful(line.encode())))
+
+    def do_take(self, place, words, _given):
+        self.asked[place].append(words)
+        mode, name, digits = words.split(" ")
+        origin = plain.target_of(mode) if "@" in mode else None
+        judge = self.pools[place]
+        try:
+            reply, state = judge.states[0].receive("Origin" if origin else mode.capitalize(), plain.target_of(name), bytes.fromhex(digits), origin)
+        except Refused as refusal:
+            return error(refusal.args[0])
+        judge.states = [state.swept()]
+        return reply
 
     def do_list(self, place, lines, _given):
         return "; ".join(self.do_apply(place, it, None) for it in lines.split("; "))
@@ -233,15 +246,30 @@ def each_kind():
     return done
 
 
+# Receives in the modes that no line has, and what comes before and after them. `<` is the full stream, `<<` the incremental one.
+MODES = """create p/a; write p/a 0 0 61; snapshot p/a@s; write p/a 0 1 62; snapshot p/a@t; take plain p/r@s <; write p/r 0 3 63; snapshot p/r@u;
+bookmark p/r@u p/r#b; set quota=51200 p/r; sync; write p/r 0 4 64; take past p/r@t <<; take p/r@s p/c@t <<; write p/c 0 0 65; promote p/c;
+take replace p/a@s <; sync; take back p/a@t <<; slice 5; take replace p/r@t <; list; slice 100; sync; write p/a 0 2 66"""
+
+
+def each_mode():
+    """The lines of MODES, with the streams in their places."""
+    full, increment = stream(0, FIRST, 0x61), plain.spelled(FIRST, SECOND, [((0, 1), b"b".ljust(512, b"\0"))])
+    return [it.replace("<<", increment.hex()).replace("<", full.hex()) for it in MODES.replace("\n", " ").split("; ")]
+
+
 class Asked(refused.Machine):
-    """A program that is asked lines of a script, each as a row on a pool that is made first. A line may be a row's word itself, as `walks now`."""
+    """A program that is asked lines of a script, each as a row on a pool that is made first. A line may be a row itself (ROWS)."""
+
+    # The first words of lines that are rows themselves.
+    ROWS = (b"walks ", b"take ")
 
     def __init__(self, machine, way):
         super().__init__(machine.shim, machine.command)
         self.way = way
 
     def run(self, lines, refused_at=0, asked=os.devnull):
-        rows = [b"0 %s" % it if it.startswith(b"walks ") else b"0 %s %s" % (self.way, it) for it in lines]
+        rows = [b"0 %s" % it if it.startswith(self.ROWS) else b"0 %s %s" % (self.way, it) for it in lines]
         status, came, said = super().run([b"0 make 1 300", *rows], refused_at, asked)
         is_made = came[:1] == [b"ok"]
         return (status, came[1:], said or b"no memory" * (status == 3)) if is_made else (3, [], b"no pool")
@@ -262,7 +290,8 @@ class LeftOut(refused.Script):
 
 def beside(way, lines):
     """Rows that ask lines of a pool in a way and of another at once."""
-    asked = (row for it in lines for row in (b"0 %s %s" % (way, it), b"1 apply %s" % it))
+    pairs = ((it, it) if it.startswith(Asked.ROWS) else (b"%s %s" % (way, it), b"apply %s" % it) for it in lines)
+    asked = (row for one, other in pairs for row in (b"0 " + one, b"1 " + other))
     return [b"0 make 1 300", b"1 make 1 300", *asked, b"0 alike"]
 
 
@@ -337,7 +366,9 @@ def try_rows(machine, workers):
 
 def try_memory(machine, workers, share):
     """Refuses memory to each kind of request; whether something is wrong, which is printed."""
-    is_wrong, lines = False, [it.encode() for it in each_kind()]
+    is_wrong, lines, receives = False, [it.encode() for it in each_kind()], [it.encode() for it in each_mode()]
+    is_wrong |= tried("receives in each mode", LeftOut(Asked(machine, b"apply"), receives), workers, share)
+    is_wrong |= tried("receives in each mode, and again", AskedAgain(machine, beside(b"two", receives)), workers, share)
     for way in (b"apply", b"two"):
         name = f"each kind of request, {'at once' if way == b'apply' else 'in two'}"
         is_wrong |= tried(name, LeftOut(Asked(machine, way), lines), workers, share)

@@ -2,6 +2,7 @@
 use crate::asked::{AskedPool, Way, are_same};
 use crate::root::tell_root;
 use crate::stops::stops;
+use crate::takes::take;
 use crate::walks::walked;
 use base::refusal::Refusal;
 use pool::Pool;
@@ -107,6 +108,7 @@ impl Pools {
             "two" => asked.ask_line(Way::InTwo, rest, told),
             "left" => asked.ask_line(Way::Left, rest, told),
             "list" => asked.run_list(rest, told),
+            "take" => take(alloc, &mut asked.pool, rest, told),
             "stops" => tell_stops(alloc, &mut asked.pool, rest, told),
             "walks" => tell_walks(alloc, &asked.pool, rest == "last", told),
             "root" => tell_root(alloc, &asked.pool, told),
