@@ -1,5 +1,5 @@
 -- What a receive leaves to be written.
-use Rattle.std.proofs.Common.{◌≡◌, ◌<◌, ◌+◌, ◌-◌, ◌*◌, ℕ, Bool, true, false, cond, List, [], ◌∷◌, Option, Some, None, length, map, refl, sym, ap, subst, ◌∙◌, inl, inr, ⊎_elim, unwrap_or}
+use Rattle.std.proofs.Common.{◌≡◌, ◌<◌, ◌+◌, ◌-◌, ◌*◌, ℕ, Bool, true, false, ◌⊎◌, cond, List, [], ◌∷◌, Option, Some, None, length, map, refl, sym, ap, subst, ◌∙◌, inl, inr, ⊎_elim, unwrap_or}
 use Rattle.std.specs.Prelude.{◌==◌, IfSome, IsSome, is_some, nat_le, if◌then◌else◌}
 use Rattle.std.specs.List.{All, last_or, range_with_len}
 use Rattle.std.specs.Option.{option_map, option_map_or, option_and_then}
