@@ -3,7 +3,7 @@
 use super::format::{Begin, Listed, Step};
 use super::respell::with_source;
 use super::Partial;
-use crate::dataset::{Dataset, Values};
+use crate::dataset::Values;
 use crate::failure::{Action, Failure, Outcome, Reason, Trying};
 use crate::host::Host;
 use crate::layer::Refusal;
@@ -12,6 +12,7 @@ use crate::property::{Kinds, Native, Property};
 use crate::setting::{check, Setting};
 use std::collections::HashMap;
 use std::rc::Rc;
+use yuzgont::Receiving;
 
 /// The objects of a file system of the layer.
 const OBJECTS: u32 = 256;
@@ -158,7 +159,8 @@ impl Host {
         } else {
             let above = name::parent(base).unwrap_or(base);
             let path = self.tree.free_path(above).ok_or(Reason::NoParent).trying(action)?;
-            self.layer.receive(&format!("{path}@{component}"), false, bytes).map_err(|refusal| not_received(arrived, base, refusal))?;
+            let to = format!("{path}@{component}");
+            self.layer.receive(&to, Receiving::Plain, bytes).map_err(|refusal| not_received(arrived, base, refusal))?;
             let file_system = self.new_file_system(path, step.kind, manner.clock);
             self.tree.insert(base.to_owned(), file_system);
         }
@@ -170,14 +172,13 @@ impl Host {
         Ok(is_new)
     }
 
-    /// Receives a stream in full over a file system that is there: it is emptied, and what is below it stays.
+    /// Receives a stream in full over a file system that is there: its contents and bookmarks go, and what is below it stays.
     fn replace(&mut self, arrived: &Arrived, base: &str, component: &str, bytes: &[u8]) -> Outcome {
-        let action = || arrived.step.action();
-        for bookmark in self.tree.bookmarks(base) {
-            self.remove_bookmark(&bookmark).trying(action)?;
-        }
-        self.empty(base).trying(action)?;
-        self.receive_onto_now(arrived, base, component, bytes)
+        let path = self.tree.get(base).map(|it| it.path.clone()).unwrap_or_default();
+        let to = format!("{path}@{component}");
+        self.layer.receive(&to, Receiving::Replace, bytes).map_err(|refusal| not_received(arrived, base, refusal))?;
+        self.follow_layer();
+        Ok(())
     }
 
     fn empty(&mut self, base: &str) -> Result<(), Refusal> {
@@ -193,11 +194,12 @@ impl Host {
         self.layer.order(&format!("snapshot {now}")).trying(action)?;
         let guid = self.layer.get(&now, yuzgont::Property::Guid).trying(action)?;
         let bytes = with_source(bytes, guid).map_err(|refusal| not_received(arrived, base, refusal))?;
-        self.layer.receive(&format!("{path}@{component}"), false, &bytes).map_err(|refusal| not_received(arrived, base, refusal))?;
+        let to = format!("{path}@{component}");
+        self.layer.receive(&to, Receiving::Plain, &bytes).map_err(|refusal| not_received(arrived, base, refusal))?;
         self.layer.order(&format!("destroy {now}")).trying(action)
     }
 
-    /// Receives onto a clone of the origin, which is here by its guid or was named. A stream in full starts from an emptied clone.
+    /// Receives as a clone of the origin, which is here by its guid or was named. A stream in full starts from an emptied clone.
     fn receive_clone(&mut self, manner: &Manner, arrived: &Arrived, base: &str, component: &str, bytes: &[u8]) -> Outcome {
         let step = &arrived.step;
         let origin = self.origin_of(manner, &arrived.destination, step)?;
@@ -209,11 +211,16 @@ impl Host {
             self.layer.order(&format!("destroy {old}")).trying(|| step.action())?;
             self.tree.remove(base);
         }
-        self.make_clone(&origin.name, base, manner.clock).trying(|| step.action())?;
         if step.from_guid == 0 {
+            self.make_clone(&origin.name, base, manner.clock).trying(|| step.action())?;
             self.empty(base).trying(|| step.action())?;
+            return self.receive_onto_now(arrived, base, component, bytes);
         }
-        self.receive_onto_now(arrived, base, component, bytes)
+        self.clone_by(&origin.name, base, manner.clock, |layer, origin, path| {
+            let to = format!("{path}@{component}");
+            layer.receive(&to, Receiving::Origin(origin), bytes).map_err(|refusal| reason_of(base, refusal))
+        })
+        .trying(|| step.action())
     }
 
     fn add_received(&mut self, arrived: &Arrived, base: &str, component: String) -> Result<(), Refusal> {
@@ -221,42 +228,29 @@ impl Host {
         self.add_snapshot(base, name, component, arrived.step.creation, Default::default())
     }
 
-    /// Receives an increment onto a file system. Snapshots newer than its source go by force, or are such that have changed nothing.
+    /// Receives an increment onto a file system. Snapshots newer than its source go by force, unless one is held or has a clone, or are such that
+    /// have changed nothing.
     fn receive_onto(&mut self, manner: &Manner, arrived: &Arrived, base: &str, bytes: &[u8]) -> Outcome {
         let step = &arrived.step;
         let snapshots = self.tree.snapshots(base);
-        let wrong = |refusal| not_received(arrived, base, refusal);
+        let wrong = |refusal| match refusal {
+            Refusal::HasClones => exists(&arrived.destination),
+            other => not_received(arrived, base, other),
+        };
         let source = snapshots.iter().find(|it| it.guid() == step.from_guid).ok_or_else(|| wrong(Refusal::WrongSource))?;
-        let newest = snapshots.last().filter(|newest| newest.name != source.name);
-        let mut respelled = None;
-        match newest {
-            Some(_) if manner.is_forced => self.go_back_to(source, &arrived.destination, step)?,
-            Some(newest) => respelled = Some(with_source(bytes, newest.guid()).map_err(wrong)?),
-            None => {}
-        }
+        let newest = snapshots.last().filter(|newest| newest.name != source.name && !manner.is_forced);
+        let respelled = newest.map(|newest| with_source(bytes, newest.guid())).transpose().map_err(wrong)?;
         let path = self.tree.get(base).map(|it| it.path.clone()).unwrap_or_default();
         let component = self.tree.next_component();
-        let force = manner.is_forced;
-        self.layer.receive(&format!("{path}@{component}"), force, respelled.as_deref().unwrap_or(bytes)).map_err(wrong)?;
-        if force {
+        let mode = if manner.is_forced { Receiving::Past } else { Receiving::Plain };
+        self.layer.receive(&format!("{path}@{component}"), mode, respelled.as_deref().unwrap_or(bytes)).map_err(wrong)?;
+        if manner.is_forced {
             self.follow_layer();
         }
         if let Some(file_system) = self.tree.edit(base) {
             file_system.partial = None;
         }
         self.add_received(arrived, base, component).trying(|| step.action())
-    }
-
-    /// A forced receive lets newer snapshots go, unless they are held or have clones.
-    fn go_back_to(&mut self, source: &Dataset, destination: &str, step: &Step) -> Outcome {
-        match self.layer.order(&format!("rollback -r {}", source.path)) {
-            Ok(()) => {
-                self.follow_layer();
-                Ok(())
-            }
-            Err(Refusal::HasClones) => Err(exists(destination)),
-            Err(refusal) => Err(Failure::Cannot(step.action(), refusal.into())),
-        }
     }
 
     /// Takes up what came beside the blocks: properties, volume sizes, holds; and what the command says of properties.

@@ -6,6 +6,7 @@ use crate::call::Call;
 use crate::dataset::Kind;
 use crate::failure::{Action, Failure, Outcome, Reason, Trying};
 use crate::host::Host;
+use crate::layer::Layer;
 use crate::name;
 use crate::property::Kinds;
 use crate::setting::{check, settings, Setting};
@@ -62,11 +63,22 @@ fn make(host: &mut Host, source: &str, target: &str, clock: i64, settings: &[Set
 impl Host {
     /// Makes a clone of a snapshot.
     pub fn make_clone(&mut self, source: &str, target: &str, clock: i64) -> Result<(), Reason> {
+        self.clone_by(source, target, clock, |layer, origin, path| Ok(layer.order(&format!("clone {origin} {path}"))?))
+    }
+
+    /// Makes a clone by what the layer is asked to do of the origin's name and the new one there.
+    pub fn clone_by(
+        &mut self,
+        source: &str,
+        target: &str,
+        clock: i64,
+        make: impl FnOnce(&mut Layer, &str, &str) -> Result<(), Reason>,
+    ) -> Result<(), Reason> {
         let snapshot = self.tree.find(source).ok_or(Reason::NoDataset)?;
         let above = name::parent(target).ok_or_else(|| Reason::Text("missing dataset name".into()))?;
         self.check_place(target, above)?;
         let path = self.tree.free_path(above).ok_or(Reason::NoParent)?;
-        self.layer.order(&format!("clone {} {path}", snapshot.path))?;
+        make(&mut self.layer, &snapshot.path, &path)?;
         let mut clone = self.new_file_system(path, snapshot.base.kind, clock);
         for property in COPIED {
             clone.local.extend(snapshot.base.local.get(property).map(|value| (property.to_owned(), value.clone())));
