@@ -3,7 +3,7 @@
  * It has the datasets of the file $OPENZFS_HAS, a line each: name, type, origin, holds, guid, mountpoint, canmount, sharenfs, sharesmb, parted by
  * tabs, as `zfs list -H -t all -o name,type,origin,userrefs,guid,mountpoint,canmount,sharenfs,sharesmb` writes them. Each change is refused with the
  * number $OPENZFS_ERRNO, as a kernel would: each name of a request of several, or with $OPENZFS_WHOLE the request as a whole. So the programs say
- * what OpenZFS says. With 0 nothing is refused, the four properties are set, and what is no folder can't be mounted on.
+ * what OpenZFS says. With 0 no change is refused, and the four properties are set; each mount is refused with $OPENZFS_MOUNT, where that is there.
  * The layout of a request is OpenZFS 2.1's `zfs_cmd_t` (include/sys/zfs_ioctl.h), the numbers are those of include/sys/fs/zfs.h.
  */
 #define _GNU_SOURCE
@@ -401,14 +401,10 @@ OPEN(open64)
 STAT(stat, stat)
 STAT(stat64, stat64)
 
-/* As a kernel mounts a file system, whose root is a folder. */
 int mount(const char *source, const char *target, const char *type, unsigned long flags, const void *options) {
-    int (*real)(const char *, struct stat *) = dlsym(RTLD_NEXT, "stat");
-    struct stat there;
-    (void)source, (void)type, (void)flags, (void)options;
-    if (real(target, &there))
-        return -1;
-    return S_ISDIR(there.st_mode) ? 0 : refuse(ENOTDIR);
+    const char *number = getenv("OPENZFS_MOUNT");
+    (void)source, (void)target, (void)type, (void)flags, (void)options;
+    return number ? refuse(atoi(number)) : 0;
 }
 
 int access(const char *path, int how) {
