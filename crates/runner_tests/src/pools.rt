@@ -78,7 +78,7 @@ fn at_once<C: Caller>(alloc: Global, caller: &mut C) -> Option<Answered> {
 }
 
 /// What a fresh pool answers to the lines, as a script or one by one.
-fn answered(alloc: Global, as_script: bool) -> Option<Answered> {
+fn answers_of(alloc: Global, as_script: bool) -> Option<Answered> {
     let pool = Pool::create(alloc, 1, 1000).ok()?;
     let mut caller = PoolCaller { alloc, pool };
     let answered = if as_script {
@@ -102,8 +102,8 @@ fn are_right(one: &Answered, other: &Answered) -> bool {
 
 #[test]
 fn lines_by_themselves(rt: HostRuntime) {
-    let alone = answered(rt.alloc(), false).expect(&rt, "memory");
-    let script = answered(rt.alloc(), true).expect(&rt, "memory");
+    let alone = answers_of(rt.alloc(), false).expect(&rt, "memory");
+    let script = answers_of(rt.alloc(), true).expect(&rt, "memory");
     let are_right = are_right(&alone, &script);
     drop(alone);
     drop(script);
