@@ -16,7 +16,7 @@ With a built program it asks more rows than a file has:
 - each request for memory of a script with each kind of request is refused in turn, at once and in two steps. The line that is told NoMemory
   has changed nothing: all lines after it, and all that can be asked of the pool, are answered as if it were left out. Asked again it is
   answered as ever, and in the end the pool has the same blocks at the same numbers as one that was never refused memory. With --gate one request
-  of twenty is refused, chosen by the digest of HEAD's tree.
+  of thirty is refused, chosen by the digest of HEAD's tree.
 
 Anything else is printed, and the exit status is 1.
 """
@@ -42,7 +42,7 @@ from wrong_bodies import order_of_tree
 ROOT = Path(__file__).resolve().parent.parent
 CRATE = ROOT / "crates" / "pool_rows"
 # Of so many requests for memory the gate refuses one.
-SHARE = 20
+SHARE = 30
 # How many blocks the lines behind `stops` write. A path has six blocks. The first write of a leaf that was synced moves them all; the next one
 # changes the leaf where it is; that of its neighbour moves a leaf, and changes a pointer; one below another block of level 1 makes both, and
 # changes a pointer; a punch of one leaf of two changes a pointer.

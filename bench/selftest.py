@@ -119,13 +119,14 @@ def rows_told(copy):
 
 def changed_by_refusal(copy):
     """What was refused memory changes a reply, of a pool and of a session."""
-    told = {}
+    told, wanted = "", ("is not as left out", "is not answered as ever")
     for script, program in ROWS.items():
-        status, told[script] = copy.run(sys.executable, "-c", FORGETS.format(script=script, program=program))
-        missed = [it for it in ("is not as left out", "is not answered as ever") if it not in told[script]]
-        if not status or missed:
-            return 0, f"{script} says nothing of {missed}: {told[script]}"
-    return 1, *told.values()
+        status, said = copy.run(sys.executable, "-c", FORGETS.format(script=script, program=program))
+        lacking = [it for it in wanted if it not in said]
+        if not status or lacking:
+            return 0, f"{script} says nothing of {' or of '.join(lacking)}: {said}"
+        told += said
+    return 1, told, *wanted
 
 
 def body_deleted(copy):

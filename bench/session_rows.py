@@ -15,7 +15,7 @@ With a built program it asks more rows than a file has:
 - two callers, and nine threads at once: callers, a caller of batches, readers of views, a syncer and a destroyer. Each reply is the one that
   the plain machine gives in the order of the history, each stands at the number that its caller was told, and each view shows its snapshot;
 - each request for memory of a session with each kind of request is refused in turn, by calls and by batches, as bench/pool_rows.py does it to
-  a pool. With --gate it is one request of twenty.
+  a pool. With --gate it is one request of thirty.
 
 Anything else than there is printed, and the exit status is 1.
 """
