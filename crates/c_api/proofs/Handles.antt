@@ -1,10 +1,12 @@
 -- Calls on handles, and requests that were asked.
-use Rattle.std.proofs.Common.{◌≡◌, ℕ, Bool, true, List, length, Option, Some, None, inl, inr, refl, sym, ◌∙◌, subst}
-use Rattle.std.specs.Prelude.{◌==◌, MatchBool}
+use Rattle.std.proofs.Common.{◌≡◌, ℕ, Bool, true, true≢false, List, length, Option, Some, None, Result, inl, inr, refl, sym, ap, ◌∙◌, subst}
+use Rattle.std.specs.Prelude.{◌==◌, IfSome, MatchBool, is_some}
 use Rattle.base.specs.declared.refusal.Refusal.{Refusal}
 use Rattle.model.specs.declared.request.Request.{Request}
 use Rattle.model.specs.declared.reply.Reply.{Reply}
 use Rattle.model.specs.State.{State}
+use Rattle.base.specs.Reading.{Reads}
+use Rattle.model.specs.declared.receiving.Receiving.{Receiving}
 use Rattle.c_api.specs.declared.host.Host.{Host}
 use Rattle.c_api.specs.declared.answer.Answer.{Answer}
 use Rattle.model.specs.declared.request.Property.{Property}
@@ -12,8 +14,8 @@ use Rattle.model.specs.declared.request.PoolProperty.{PoolProperty}
 use Rattle.model.specs.declared.request.Request.TheVariants.{PoolGet}
 use Rattle.c_api.specs.declared.answer.Answer.TheVariants.{Done, Refused, NoPool, HasPool, BadLength}
 use Rattle.c_api.specs.Answers.{answer_of, got_answer, number_in, names_in, stream_in}
-use Rattle.c_api.specs.Asking.{asked_write, asked_read, asked_get, asked_send_from}
-use Rattle.c_api.specs.Calls.{Calls, Creates, IsFresh, CanBe, CreateRefused, Asks, Does, Idle, KeepsResults, Writes, ReadInto, ReadsBlock, TellsNumber, GetsOf, PoolGetsOf, Lists, Sends}
+use Rattle.c_api.specs.Asking.{asked_write, asked_read, asked_get, asked_receive, asked_send_from}
+use Rattle.c_api.specs.Calls.{Calls, Creates, IsFresh, CanBe, CreateRefused, Asks, Does, Idle, KeepsResults, Writes, ReadInto, ReadsBlock, TellsNumber, GetsOf, PoolGetsOf, ReceivesOf, Lists, Sends}
 
 -- a handle without a pool says so
 pub unopened : (does : Host → Answer → Host → Type 0) (old new : Option Host) → None ≡ old → new ≡ None → Calls does old NoPool new
@@ -51,6 +53,14 @@ pub gets : (name : List ℕ) (at : Option Property) (property : Property) (befor
     → TellsNumber (asked_get name property) before after h answer k
     → GetsOf name at before after h answer k
 gets name at property before after h k answer is asks = subst (λ (o : Option Property). GetsOf name o before after h answer k) is asks
+
+-- a receive in a mode that has a number
+pub receives : (name bytes : List ℕ) (at : Option (Option Receiving)) (found : Option (Result Receiving Refusal)) (mode : Result Receiving Refusal) (h k : Host) (answer : Answer) → found ≡ Some mode
+    → (at ≡ None → found ≡ None) → ((read : Option Receiving) → at ≡ Some read → IfSome found (λ m. Reads m read))
+    → ((read : Option Receiving) → Reads mode read → Does (asked_receive name bytes read) h answer k)
+    → ReceivesOf name bytes at h answer k
+receives name bytes None found mode h k answer is none some does = absurd (true≢false (ap is_some (sym is ∙ none refl)))
+receives name bytes (Some read) found mode h k answer is none some does = does read (subst (λ (x : Option (Result Receiving Refusal)). IfSome x (λ m. Reads m read)) is (some read refl))
 
 -- a property of the pool that has a number
 pub pool_gets : (at : Option PoolProperty) (property : PoolProperty) (before after : ℕ) (h k : Host) (answer : Answer) → Some property ≡ at
