@@ -42,9 +42,13 @@ impl Case {
         let (blocks, id) = sizes.split_once(' ').context("a header has an id")?;
         let (blocks, id) = (blocks.parse::<u32>()?, id.parse::<u32>()?);
         let name = String::from_str(alloc, name)?;
+        let mut pools = Vec::new(alloc);
+        for way in [Answering::AtOnce, Answering::InTwo] {
+            pools.push(AskedPool::new(alloc, blocks, id, way).context("a pool")?)?;
+        }
         Ok(Case {
             name,
-            pools: both_ways(alloc, blocks, id)?,
+            pools,
             walk: Walk::new(alloc),
             lines: 0,
             is_wrong: false,
@@ -102,17 +106,6 @@ impl Case {
     }
 }
 
-/// A fresh pool of so many blocks with this id for each way.
-fn both_ways(alloc: Global, blocks: u32, id: u32) -> Result<Vec<AskedPool>> {
-    let mut pools = Vec::new(alloc);
-    for way in [Answering::AtOnce, Answering::InTwo] {
-        // Room is made before the pool, so that no push can hand a pool back.
-        pools.reserve(1)?;
-        pools.push_reserved(AskedPool::new(alloc, blocks, id, way).context("a pool")?);
-    }
-    Ok(pools)
-}
-
 /// Bytes as they are printed, without the line feed at their end.
 fn text_of(bytes: &[u8]) -> &str {
     str::from_utf8(bytes).map_or("what is no text", |text| text.trim_end())
@@ -162,7 +155,9 @@ impl Cases {
             return Ok(());
         }
         if let Some(header) = line.strip_prefix("pool ") {
-            return self.begin_case(header);
+            self.end_case();
+            self.current = Some(Case::begun(self.alloc, header)?);
+            return Ok(());
         }
         if let Some(definition) = line.strip_prefix("let ") {
             let (name, words) = definition
@@ -188,13 +183,6 @@ impl Cases {
             Some(rows) => self.run_repeated(rt, rows),
             None => self.run_row(rt, line, 0),
         }
-    }
-
-    /// Ends the case that was run, where there is one, and begins the next.
-    fn begin_case(&mut self, header: &str) -> Result<()> {
-        self.end_case();
-        self.current = Some(Case::begun(self.alloc, header)?);
-        Ok(())
     }
 
     /// The case that is being run.

@@ -125,10 +125,10 @@ fn a_reader_that_fails(rt: HostRuntime) {
 /// memory to say so.
 #[test]
 fn refused_memory_is_told(rt: HostRuntime) {
-    let Ok(mut reader) = BufReader::with_capacity(rt.alloc(), 7, Counted::new(FREEING)) else {
+    let Ok(reader) = BufReader::with_capacity(rt.alloc(), 7, Counted::new(FREEING)) else {
         return;
     };
-    let ran = run_from(&rt, rt.alloc(), Some(&beside(false, 1000)), &mut reader);
+    let ran = run_from(&rt, rt.alloc(), Some(&beside(false, 1000)), reader);
     let is_told = is_told(&ran);
     drop(ran);
     assert!(rt; is_told);

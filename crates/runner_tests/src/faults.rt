@@ -1,6 +1,7 @@
 //! Readers and writers that fail.
-use crate::rig::{Ran, args_of, run, run_from, run_into};
+use crate::rig::{Ran, args_of, run, run_into};
 use base::failing::{Counted, Failing};
+use runner::run_args;
 use std::alloc::Global;
 use std::io;
 use std::io::{BufReader, ErrorKind, Read, Write};
@@ -145,28 +146,54 @@ impl<T> Failing for Untold<T> {
     }
 }
 
-/// A run whose reader fails and tells nothing.
-fn run_untold(rt: &(impl Threads + Wait + Abort + Sync), alloc: Global) -> Ran {
+/// The exit status and the errors of a run whose reader fails and tells nothing.
+fn run_untold(rt: &(impl Threads + Wait + Abort + Sync), alloc: Global) -> (u8, Vec<u8>) {
     let inner = Untold {
         inner: FailAt::new(SCRIPT, 2, ErrorKind::Other),
     };
     let reader = BufReader::with_capacity(alloc, 7, inner);
     let mut reader = reader.expect(rt, "memory for a buffer");
-    run_from(rt, alloc, Some(&args_of(false, 1000)), &mut reader)
+    let mut output = Counted::new(Vec::new(alloc));
+    let mut errors = Counted::new(Vec::new(alloc));
+    let args = args_of(false, 1000);
+    let status = run_args(
+        rt,
+        alloc,
+        Some(&args),
+        &mut reader,
+        &mut output,
+        &mut errors,
+    );
+    (status, errors.inner)
 }
 
 #[test]
 fn a_failure_that_is_not_told(rt: HostRuntime) {
-    let ran = run_untold(&rt, rt.alloc());
-    let is_told = ran.failed(NO_MEMORY, 3);
-    drop(ran);
-    assert!(rt; is_told);
+    let (status, errors) = run_untold(&rt, rt.alloc());
+    let is_told = errors.as_slice() == NO_MEMORY;
+    drop(errors);
+    assert!(rt; status == 3 && is_told);
 }
 
 /// A run of a reader without a buffer.
 fn run_unbuffered(rt: &(impl Threads + Wait + Abort + Sync), alloc: Global) -> Ran {
     let mut reader = Counted::new(SCRIPT);
-    run_from(rt, alloc, Some(&args_of(false, 1000)), &mut reader)
+    let mut output = Counted::new(Vec::new(alloc));
+    let mut errors = Counted::new(Vec::new(alloc));
+    let args = args_of(false, 1000);
+    let status = run_args(
+        rt,
+        alloc,
+        Some(&args),
+        &mut reader,
+        &mut output,
+        &mut errors,
+    );
+    Ran {
+        output: output.inner,
+        errors: errors.inner,
+        status,
+    }
 }
 
 fn is_told(ran: &Ran) -> bool {

@@ -4,7 +4,8 @@ use model::reply::Reply;
 use model::request::Request;
 use runner::{Pool, PoolCaller};
 use script::run::{Caller, answer_line, run_script};
-use std::alloc::Global;
+use std::alloc::{AllocError, Global};
+use std::process::Abort;
 
 /// Whether a script prints this, and all its lines are answered.
 fn prints<C: Caller>(alloc: Global, caller: &mut C, script: &[u8], output: &[u8]) -> bool {
@@ -43,69 +44,75 @@ fn a_pool_of_ones_own(rt: HostRuntime) {
 }
 
 /// Lines with replies of each shape, with none, and refused ones.
-const LINES: &str =
-    "create p/a\n# a comment\n\nwrite p/a 0 0 61\nfrob\nwrite p/a 0 0\ncreate p/a\nread p/a 0 0\nread p/a 0 1\nread p/a 256 0\nsnapshot p/a@s\nhold x p/a@s\nholds p/a@s\nview p/a@s\nunview 7\ndestroy p/a@s\nsend p/a@s\nget origin p/a\nlist\nslice 3\nsync\n";
+const LINES: [&str; 21] = [
+    "create p/a",
+    "# a comment",
+    "",
+    "write p/a 0 0 61",
+    "frob",
+    "write p/a 0 0",
+    "create p/a",
+    "read p/a 0 0",
+    "read p/a 0 1",
+    "read p/a 256 0",
+    "snapshot p/a@s",
+    "hold x p/a@s",
+    "holds p/a@s",
+    "view p/a@s",
+    "unview 7",
+    "destroy p/a@s",
+    "send p/a@s",
+    "get origin p/a",
+    "list",
+    "slice 3",
+    "sync",
+];
 
-/// What was answered to the lines, and whether one was refused.
-#[derive(Drop)]
-struct Answered {
-    text: Vec<u8>,
-    refused: bool,
+/// The lines as a script.
+fn script(alloc: Global) -> Result<Vec<u8>, AllocError> {
+    let mut script = Vec::new(alloc);
+    for line in LINES {
+        script.extend_from_slice(line.as_bytes())?;
+        script.push(b'\n')?;
+    }
+    Ok(script)
 }
 
-/// What is answered to the lines one by one.
-fn one_by_one<C: Caller>(alloc: Global, caller: &mut C) -> Option<Answered> {
-    let mut text = Vec::new(alloc);
+/// What a pool answers to the lines one by one, and whether it refused one.
+fn answers_alone(rt: &impl Abort, alloc: Global, pool: Pool) -> (Vec<u8>, bool) {
+    let mut caller = PoolCaller { alloc, pool };
+    let mut answers = Vec::new(alloc);
     let mut reply = Vec::new(alloc);
     let mut refused = false;
-    for line in LINES.lines() {
-        let answered = answer_line(alloc, caller, line.as_bytes(), &mut reply).ok()?;
-        refused |= answered.is_some();
-        text.extend_from_slice(&reply).ok()?;
+    for line in LINES {
+        let answered = answer_line(alloc, &mut caller, line.as_bytes(), &mut reply);
+        refused |= answered.expect(rt, "an answer").is_some();
+        answers.extend_from_slice(&reply).expect(rt, "memory");
     }
-    Some(Answered { text, refused })
-}
-
-/// What is answered to the lines as a script.
-fn at_once<C: Caller>(alloc: Global, caller: &mut C) -> Option<Answered> {
-    let mut reader = Counted::new(LINES.as_bytes());
-    let mut writer = Counted::new(Vec::new(alloc));
-    let refused = run_script(alloc, caller, &mut reader, &mut writer, false).ok()?;
-    Some(Answered {
-        text: writer.inner,
-        refused,
-    })
-}
-
-/// What a fresh pool answers to the lines, as a script or one by one.
-fn answers_of(alloc: Global, as_script: bool) -> Option<Answered> {
-    let pool = Pool::create(alloc, 1, 1000).ok()?;
-    let mut caller = PoolCaller { alloc, pool };
-    let answered = if as_script {
-        at_once(alloc, &mut caller)
-    } else {
-        one_by_one(alloc, &mut caller)
-    };
     drop(caller);
-    answered
+    (answers, refused)
 }
 
-/// Whether both are the same, from the replies of the first lines to those of the last, and a line was refused.
-fn are_right(one: &Answered, other: &Answered) -> bool {
-    let first: &[u8] = b"ok\nok\nerror 28 BadLine\nerror 28 BadLine\nerror 3 Exists\n61";
-    one.text.as_slice() == other.text.as_slice()
-        && one.text.starts_with(first)
-        && one.text.ends_with(b"\n0\n3\n")
-        && one.refused
-        && other.refused
+/// What a pool answers to the script of the lines, and whether it refused one.
+fn answers_at_once(rt: &impl Abort, alloc: Global, pool: Pool) -> (Vec<u8>, bool) {
+    let mut caller = PoolCaller { alloc, pool };
+    let script = script(alloc).expect(rt, "memory");
+    let mut reader = Counted::new(script.as_slice());
+    let mut writer = Counted::new(Vec::new(alloc));
+    let refused = run_script(alloc, &mut caller, &mut reader, &mut writer, false);
+    drop(caller);
+    (writer.inner, refused.expect(rt, "all lines are answered"))
 }
 
 #[test]
 fn lines_by_themselves(rt: HostRuntime) {
-    let alone = answers_of(rt.alloc(), false).expect(&rt, "memory");
-    let script = answers_of(rt.alloc(), true).expect(&rt, "memory");
-    let are_right = are_right(&alone, &script);
-    drop(alone);
-    drop(script);
-    assert!(rt; are_right);
+    let alloc = rt.alloc();
+    let one = Pool::create(alloc, 1, 1000).expect(&rt, "memory");
+    let other = Pool::create(alloc, 1, 1000).expect(&rt, "memory");
+    let (alone, is_one_refused) = answers_alone(&rt, alloc, one);
+    let (at_once, is_other_refused) = answers_at_once(&rt, alloc, other);
+    let are_same = alone.as_slice() == at_once.as_slice();
+    let first: &[u8] = b"ok\nok\nerror 28 BadLine\nerror 28 BadLine\nerror 3 Exists\n61";
+    assert!(rt; are_same && alone.starts_with(first) && alone.ends_with(b"\n0\n3\n"));
+    assert!(rt; is_one_refused && is_other_refused);
 }

@@ -1,8 +1,8 @@
 //! Runs of the program over memory.
-use base::failing::{Counted, Failing};
+use base::failing::Counted;
 use runner::{Args, run_args};
 use std::alloc::Global;
-use std::io::{BufRead, BufReader, Read, Write};
+use std::io::{BufReader, Read, Write};
 use std::process::Abort;
 use std::sync::Wait;
 use std::thread::Threads;
@@ -49,35 +49,6 @@ pub fn beside(stop: bool, blocks: u32) -> Args {
     }
 }
 
-/// A run that reads and writes by these: its exit status, and what it printed to its errors.
-fn run_by<R: BufRead + Failing, W: Write + Failing>(
-    rt: &(impl Threads + Wait + Abort + Sync),
-    alloc: Global,
-    args: Option<&Args>,
-    reader: &mut R,
-    writer: &mut W,
-) -> (u8, Vec<u8>) {
-    let mut errors = Counted::new(Vec::new(alloc));
-    let status = run_args(rt, alloc, args, reader, writer, &mut errors);
-    (status, errors.inner)
-}
-
-/// A run with a reader that has its buffer.
-pub fn run_from<R: BufRead + Failing>(
-    rt: &(impl Threads + Wait + Abort + Sync),
-    alloc: Global,
-    args: Option<&Args>,
-    reader: &mut R,
-) -> Ran {
-    let mut output = Counted::new(Vec::new(alloc));
-    let (status, errors) = run_by(rt, alloc, args, reader, &mut output);
-    Ran {
-        output: output.inner,
-        errors,
-        status,
-    }
-}
-
 /// A run with a reader that gives at most seven bytes at a time.
 pub fn run<R: Read + Drop>(
     rt: &(impl Threads + Wait + Abort + Sync),
@@ -86,8 +57,25 @@ pub fn run<R: Read + Drop>(
     source: R,
 ) -> Ran {
     let reader = BufReader::with_capacity(alloc, 7, Counted::new(source));
-    let mut reader = reader.expect(rt, "memory for a buffer");
-    run_from(rt, alloc, args, &mut reader)
+    let reader = reader.expect(rt, "memory for a buffer");
+    run_from(rt, alloc, args, reader)
+}
+
+/// A run with a reader that has its buffer.
+pub fn run_from<R: Read + Drop>(
+    rt: &(impl Threads + Wait + Abort + Sync),
+    alloc: Global,
+    args: Option<&Args>,
+    mut reader: BufReader<Counted<R>>,
+) -> Ran {
+    let mut output = Counted::new(Vec::new(alloc));
+    let mut errors = Counted::new(Vec::new(alloc));
+    let status = run_args(rt, alloc, args, &mut reader, &mut output, &mut errors);
+    Ran {
+        output: output.inner,
+        errors: errors.inner,
+        status,
+    }
 }
 
 /// A run of a good command line.
@@ -107,9 +95,18 @@ pub fn run_into<W: Write + Drop>(
     script: &[u8],
     writer: W,
 ) -> (u8, Vec<u8>) {
+    let args = args_of(false, 1000);
     let reader = BufReader::with_capacity(alloc, 7, Counted::new(script));
     let mut reader = reader.expect(rt, "memory for a buffer");
     let mut output = Counted::new(writer);
-    let args = args_of(false, 1000);
-    run_by(rt, alloc, Some(&args), &mut reader, &mut output)
+    let mut errors = Counted::new(Vec::new(alloc));
+    let status = run_args(
+        rt,
+        alloc,
+        Some(&args),
+        &mut reader,
+        &mut output,
+        &mut errors,
+    );
+    (status, errors.inner)
 }
