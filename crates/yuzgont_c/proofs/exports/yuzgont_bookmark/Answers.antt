@@ -1,4 +1,5 @@
+use Rattle.std.proofs.Common.{rules}
 use Rattle.yuzgont_c.proofs.exports.yuzgont_bookmark.Goals as goal
 
 pub returns : goal.returns
-returns c = (c.bookmark.result, c.code.ensures, c.bookmark.ensures)
+returns c = (c.bookmark.result, search rules, c.bookmark.ensures)

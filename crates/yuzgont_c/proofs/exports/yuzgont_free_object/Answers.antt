@@ -1,4 +1,5 @@
+use Rattle.std.proofs.Common.{rules}
 use Rattle.yuzgont_c.proofs.exports.yuzgont_free_object.Goals as goal
 
 pub returns : goal.returns
-returns c = (c.free_object.result, c.code.ensures, c.free_object.ensures)
+returns c = (c.free_object.result, search rules, c.free_object.ensures)

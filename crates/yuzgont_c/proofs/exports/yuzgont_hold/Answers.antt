@@ -1,4 +1,5 @@
+use Rattle.std.proofs.Common.{rules}
 use Rattle.yuzgont_c.proofs.exports.yuzgont_hold.Goals as goal
 
 pub returns : goal.returns
-returns c = (c.hold.result, c.code.ensures, c.hold.ensures)
+returns c = (c.hold.result, search rules, c.hold.ensures)

@@ -1,4 +1,5 @@
+use Rattle.std.proofs.Common.{rules}
 use Rattle.yuzgont_c.proofs.exports.yuzgont_promote.Goals as goal
 
 pub returns : goal.returns
-returns c = (c.promote.result, c.code.ensures, c.promote.ensures)
+returns c = (c.promote.result, search rules, c.promote.ensures)

@@ -1,4 +1,5 @@
+use Rattle.std.proofs.Common.{rules}
 use Rattle.yuzgont_c.proofs.exports.yuzgont_send.Goals as goal
 
 pub returns : goal.returns
-returns c = (c.send.result, c.code.ensures, c.send.ensures)
+returns c = (c.send.result, search rules, c.send.ensures)
