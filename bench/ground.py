@@ -1,5 +1,5 @@
 #!/usr/bin/env python3
-"""Tells of the rows of base_rows, stream_rows, ground_rows and snapshot_rows what plain Python values tell, and compares.
+"""Tells of the rows of base_rows, stream_rows, ground_rows, tree_rows and snapshot_rows what plain Python values tell, and compares.
 
     python3 bench/ground.py
     python3 bench/ground.py --write
@@ -27,6 +27,7 @@ from pathlib import Path
 import plain
 import refused
 import snapshot_rows
+import tree_rows
 from row_words import LETTERS, MASK, PAST, REFUSALS, Refused, Words, error, is_component, is_system, mixed, yes
 
 ROOT = Path(__file__).resolve().parent.parent
@@ -492,7 +493,7 @@ class Machine:
     """What plain values tell of rows."""
 
     def __init__(self):
-        self.kinds = {"list": Lists(), "number": Allocators(), "states": States(), "dead": DeadLists(), **snapshot_rows.kinds()}
+        self.kinds = {"list": Lists(), "number": Allocators(), "states": States(), "dead": DeadLists(), **snapshot_rows.kinds(), **tree_rows.kinds()}
 
     def row(self, row, number):
         kind, _, rest = row.partition(".")
@@ -556,6 +557,7 @@ REFUSED = {
     },
     "stream_rows": {"a stream with a leaf": [f"stream.write {ONE_LEAF}", f"stream.again {ONE_LEAF}"]},
     "snapshot_rows": snapshot_rows.REFUSED,
+    "tree_rows": tree_rows.REFUSED,
     "ground_rows": {
         "a list of two chunks and two elements, and copies that change": [
             "for 0 129 1: list.push 0 {}",

@@ -561,25 +561,49 @@ class State:  # never changed in place: a request makes a new state
             return named.id if named in [it for _, it in self.now.older(system, t)] else None
         return named if name.mark and named and name.system == system and named[0] < t.group else None
 
-    def receive(self, force, target, stream):
-        """Makes the change that a stream tells, of nothing or of the newest snapshot, which is its source, and takes a snapshot with its guid."""
-        w, name, told = self.now, target.system, told_by(stream)
+    def receive(self, mode, target, stream, origin=None):
+        """Makes the change that a stream tells, of what its mode begins with, and takes a snapshot with its guid. A line's -F is the mode Back."""
+        mode, told = {False: "Plain", True: "Back"}.get(mode, mode), told_by(stream)
         refuse("BadStream", not told)
         source, guid, records = told
-        if source == 0:
-            before = self.with_new(name, FileSystem())
-        else:
-            refuse("NoDataset", name not in w.systems)
-            refuse("Exists", w.named(target))
-            newest = next(reversed(w.systems[name].snaps.values()), None)
-            refuse("WrongSource", not newest or newest.guid != source)
-            refuse("Modified", not force and w.systems[name].live.blocks != newest.map.blocks)
-            before = self.with_system(name, w.systems[name].back_at(newest)).with_losses(self) if force else self
-        refuse("TooMany", self.has_no_room_for(1))
+        before = self.begun_in_full(mode, target.system) if source == 0 else self.begun_from(source, mode, target, origin)
+        refuse("TooMany", before.has_no_room_for(1))
+        w, name = before.now, target.system
         writes, freed = {index: data for (_, index), data in records if data}, {key for key, data in records if not data}
-        live = before.now.systems[name].live.rewritten(writes, lambda leaf: any(key in freed for key in path(leaf)), w.group)
+        live = w.systems[name].live.rewritten(writes, lambda leaf: any(key in freed for key in path(leaf)), w.group)
         new = before.with_system(name, live=live).with_snap(name, Snapshot(target.component, live, guid, w.group))
         return "ok", new.with_now(group=w.group + 1).within_limits()
+
+    def begun_in_full(self, mode, name):
+        """What a full stream begins with: a new file system, or one that keeps its limits alone (requests/Receive: before_full, full_row)."""
+        refuse("BadStream", mode == "Origin")
+        if mode != "Replace":
+            return self.with_new(name, FileSystem())
+        f = self.now.systems.get(name)
+        refuse("NoDataset", not f)
+        refuse("Exists", f.origin)
+        self.ask_leave(f.snaps.values())
+        return self.with_system(name, FileSystem(limits=f.limits)).with_losses(self)
+
+    def begun_from(self, source, mode, target, origin):
+        """What an incremental stream begins with: a clone, or the file system that is there, as it is or gone back (Receive: before_incremental,
+        incremental_row)."""
+        refuse("BadStream", mode == "Replace")
+        if mode == "Origin":
+            t = self.now.named(origin)
+            refuse("NoDataset", not t)
+            refuse("Deferred", t.deferred)
+            refuse("WrongSource", t.guid != source)
+            return self.with_new(target.system, FileSystem(live=t.map, origin=t.id))
+        f, is_past = self.now.systems.get(target.system), mode == "Past"
+        refuse("NoDataset", not f)
+        refuse("Exists", not is_past and self.now.named(target))
+        t = next((it for it in reversed(f.snaps.values()) if not is_past or it.guid == source), None)
+        refuse("WrongSource", not t or t.guid != source)
+        refuse("Exists", target.component in f.snaps and f.snaps[target.component].group <= t.group)
+        refuse("Modified", mode == "Plain" and f.live.blocks != t.map.blocks)
+        self.ask_leave([it for it in f.snaps.values() if it.group > t.group])
+        return self if mode == "Plain" else self.with_system(target.system, f.back_at(t)).with_losses(self)
 
 
 def records_since(map_, group):

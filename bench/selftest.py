@@ -18,11 +18,36 @@ from pathlib import Path
 
 ROOT = Path(__file__).resolve().parent.parent
 ZFSP, LIBRARY = "crates/zfsp/out/zfsp", "crates/yuzgont_c/out/libyuzgont_c.a"
-BUILT = (ZFSP, LIBRARY, "crates/yuzgont_c/out/libyuzgont_c.a.stamp")
+# The shared library, which the hosts' part of the gate leaves.
+SHARED = "hosts/out/libyuzgont.so"
+# The programs of rows that a script of the same name asks.
+ROWS = {it: f"crates/{it}/out/{it}" for it in ("pool_rows", "session_rows")}
+BUILT = (ZFSP, LIBRARY, "crates/yuzgont_c/out/libyuzgont_c.a.stamp", *ROWS.values())
 # A crate whose wrong bodies are broken.
 CRATE = "node"
 # And one whose wrong bodies strike methods, below free functions of the same files.
 METHODS = "batch"
+# A script of rows whose program gives another last reply once memory was refused to it, of one request in a hundred.
+FORGETS = """import sys
+sys.path.insert(0, "bench")
+import {script} as rows
+import pool_rows
+import refused
+from functools import partial
+from pathlib import Path
+
+told = refused.Machine.run
+
+
+def run(machine, lines, refused_at=0, asked="/dev/null"):
+    status, came, said = told(machine, lines, refused_at, asked)
+    is_refused = refused_at and refused.REFUSED in b" ".join(came)
+    return status, [*came[:-1], b"other"] if is_refused else came, said
+
+
+refused.Machine.run = run
+sys.exit(pool_rows.try_all(Path("{program}"), lambda *_: False, partial(rows.try_memory, share=100)))
+"""
 # A command in the place of `rt ci`, which counts its runs in a file: the first says something, and later ones that all passed.
 STUB = "echo run >>runs; [ $(wc -l <runs) = 1 ] && { %s; exit 1; }; echo '3 passed, 0 failed'"
 
@@ -79,16 +104,29 @@ def reply_by_definition(copy):
 def rows_told(copy):
     """A row that stands otherwise than plain values tell it; each crate of rows has its own."""
     said = ""
-    for crate in ("base_rows", "stream_rows", "ground_rows", "snapshot_rows"):
+    names = ("base_rows", "stream_rows", "ground_rows", "tree_rows", "snapshot_rows", *ROWS)
+    for crate in names:
         file = copy.root / f"crates/{crate}/stdout"
         text = file.read_text()
         copy.edit(f"crates/{crate}/stdout", r"\bok$", "none")
-        status, told = copy.python("bench/ground.py")
+        status, told = copy.python(f"bench/{crate if crate in ROWS else 'ground'}.py")
         file.write_text(text)
         if not status:
             return status, f"{crate}: {told}"
         said += told
-    return 1, said, "base_rows: stands ", "stream_rows: stands ", "ground_rows: stands ", "snapshot_rows: stands "
+    return 1, said, *(f"{it}: stands " for it in names)
+
+
+def changed_by_refusal(copy):
+    """What was refused memory changes a reply, of a pool and of a session."""
+    told, wanted = "", ("is not as left out", "is not answered as ever")
+    for script, program in ROWS.items():
+        status, said = copy.run(sys.executable, "-c", FORGETS.format(script=script, program=program))
+        lacking = [it for it in wanted if it not in said]
+        if not status or lacking:
+            return 0, f"{script} says nothing of {' or of '.join(lacking)}: {said}"
+        told += said
+    return 1, told, *wanted
 
 
 def body_deleted(copy):
@@ -169,6 +207,12 @@ def leak(copy):
     return *copy.run("env", f"YUZGONT_LIB={Path(LIBRARY).parent}", "bash", "hosts/run.sh", "1000"), "77 bytes in 1 blocks are definitely lost"
 
 
+def receive_in_a_mode(copy):
+    """A plain machine that forgets the limits of a file system whose place a stream takes."""
+    copy.edit("bench/plain.py", r"FileSystem\(limits=f\.limits\)", "FileSystem()")
+    return *copy.run("env", f"YUZGONT_LIBRARY={ROOT / SHARED}", sys.executable, "bench/receives.py", "--pools", "50", "--requests", "150"), "the plain machine: "
+
+
 def short(copy):
     copy.edit("bench/machine.py", r"^LEFT, OF_EACH_PROOF = \S+", "LEFT, OF_EACH_PROOF = 9_000_000_000,")
     return *copy.python("bench/machine.py"), "machine: short of "
@@ -196,6 +240,7 @@ BROKEN = {
     "a reply of an example": (reply, ZFSP),
     "a row, and a reply by the definition": (reply_by_definition, None),
     "rows that no plain value tells so": (rows_told, None),
+    "a reply that a refused request changes": (changed_by_refusal, ROWS["session_rows"]),
     "a wrong body deleted": (body_deleted, None),
     "a wrong body that wasn't tried": (body_without_line, None),
     "a wrong body made right": (body_made_right, None),
@@ -206,6 +251,7 @@ BROKEN = {
     "a file that isn't laid out": (layout, None),
     "a count in a page": (count, None),
     "a leak in a host": (leak, LIBRARY),
+    "a receive in one of its modes": (receive_in_a_mode, SHARED),
     "a disk that is too small": (short, None),
     "a part of the gate": (part, None),
     "a proof that is refused": (proof_once, None),

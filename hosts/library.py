@@ -7,7 +7,8 @@ The library is crates/yuzgont_c/out/libyuzgont_c.a, where `rt lib` makes it. Whe
 stamp beside it has the sum of all texts that it stands on, of the kit, and of the library itself. Else the libraries below yuzgont_c are taken from
 what `rt ci` has kept of the same texts (bench/libraries.py). Those that it hasn't kept, as where the disk was too full, are named, and proved
 first, one after another, each with a line before it. `rt ci` proves yuzgont_c and leaves nothing of it to build from, so the build checks that one
-crate, over what a check of it has left here or in another checkout, where there is such work. The status is that of the build.
+crate, which has the exports alone, over what a check of it has left here or in another checkout, where there is such work. The status is that of
+the build.
 """
 
 import sys

@@ -79,7 +79,7 @@ enum yuz_code {
     YUZ_POOL_MISSING = -2,  /* the handle has no pool */
     YUZ_POOL_THERE = -3,    /* the handle has a pool already */
     YUZ_BAD_LENGTH = -4,    /* a block isn't 512 bytes */
-    YUZ_NO_PROPERTY = -5,   /* no property has this number */
+    YUZ_NO_PROPERTY = -5,   /* no property, limit or mode of a receive has this number */
     YUZ_NOT_APPLICABLE = -6, /* what was asked about has no such property */
     YUZ_BAD_AMOUNT = -7,    /* a limit's amount is no multiple of 512 bytes, or more than 2^49 */
     YUZ_NO_ENTRY = -8,      /* the last list has no name at this place */
@@ -121,6 +121,15 @@ enum yuz_limit {
     YUZ_LIMIT_REF_QUOTA = 1,
     YUZ_LIMIT_RESERVATION = 2,
     YUZ_LIMIT_REF_RESERVATION = 3
+};
+
+/* The mode of a receive (docs/RECEIVE.md, with the order of refusals of each). */
+enum yuz_receiving {
+    YUZ_RECEIVE_PLAIN = 0,   /* a full stream makes a file system; an incremental one goes into one that hasn't changed since its newest snapshot */
+    YUZ_RECEIVE_BACK = 1,    /* the file system is rolled back to its newest snapshot first */
+    YUZ_RECEIVE_PAST = 2,    /* the file system is rolled back to the stream's source; newer snapshots and bookmarks are destroyed */
+    YUZ_RECEIVE_ORIGIN = 3,  /* an incremental stream makes a clone of its source */
+    YUZ_RECEIVE_REPLACE = 4  /* a full stream takes the place of a file system; its contents, snapshots and bookmarks are destroyed */
 };
 
 /* What an entry of a list is, by its name: a file system, `p/a@s` or `p/a#m`. */
@@ -165,7 +174,7 @@ int32_t yuzgont_slice(yuz_pool *pool, uint64_t count, uint64_t *taken);
 int32_t yuzgont_abandon(yuz_pool *pool);
 int32_t yuzgont_send(yuz_pool *pool, const uint8_t *name, size_t name_length, const uint8_t *from, size_t from_length, size_t *size);
 int32_t yuzgont_stream(yuz_pool *pool, size_t from, uint8_t *buffer, size_t length, size_t *count);
-int32_t yuzgont_receive(yuz_pool *pool, const uint8_t *name, size_t name_length, const uint8_t *bytes, size_t length, bool force);
+int32_t yuzgont_receive(yuz_pool *pool, const uint8_t *name, size_t name_length, const uint8_t *bytes, size_t length, uint32_t mode, const uint8_t *origin, size_t origin_length);
 int32_t yuzgont_forget(yuz_pool *pool);
 int32_t yuzgont_create_file_system(yuz_pool *pool, const uint8_t *name, size_t name_length);
 int32_t yuzgont_clone(yuz_pool *pool, const uint8_t *snapshot, size_t snapshot_length, const uint8_t *name, size_t name_length);
@@ -281,11 +290,11 @@ static inline int yuz_stream(yuz_pool *pool, size_t from, void *buffer, size_t l
     return yuzgont_stream(pool, from, length > 0 ? (uint8_t *)buffer : &none, length, count);
 }
 
-/* Receives a whole stream as a snapshot; with `force` the file system goes back to its newest snapshot first. YUZ_BAD_STREAM where the
- * bytes are no stream, as where it was cut. */
-static inline int yuz_receive(yuz_pool *pool, const char *name, size_t name_length, const void *bytes, size_t length, bool force) {
-    if (pool == NULL || yuz_is_wrong(name, name_length) || yuz_is_wrong(bytes, length)) return YUZ_NULL;
-    return yuzgont_receive(pool, yuz_bytes(name), name_length, yuz_bytes(bytes), length, force);
+/* Receives a whole stream as a snapshot, in a mode; `origin` names a snapshot at YUZ_RECEIVE_ORIGIN, and isn't looked at elsewhere.
+ * YUZ_BAD_STREAM where the bytes are no stream, as where it was cut, or not one for the mode; YUZ_NO_PROPERTY where there is no such mode. */
+static inline int yuz_receive(yuz_pool *pool, const char *name, size_t name_length, const void *bytes, size_t length, enum yuz_receiving mode, const char *origin, size_t origin_length) {
+    if (pool == NULL || yuz_is_wrong(name, name_length) || yuz_is_wrong(bytes, length) || yuz_is_wrong(origin, origin_length)) return YUZ_NULL;
+    return yuzgont_receive(pool, yuz_bytes(name), name_length, yuz_bytes(bytes), length, (uint32_t)mode, yuz_bytes(origin), origin_length);
 }
 
 /* Makes an empty file system, as `p/a`. */
@@ -444,7 +453,7 @@ typedef ptrdiff_t (*yuz_source)(void *context, uint8_t *buffer, size_t length);
 
 /* Receives as `yuz_receive` what a source gives, which is gathered first. YUZ_NO_MEMORY where there is no room for it, and `YUZ_SOURCE_FAILED`
  * where the source fails; nothing has changed then. */
-static inline int yuz_receive_from(yuz_pool *pool, const char *name, size_t name_length, yuz_source source, void *context, bool force) {
+static inline int yuz_receive_from(yuz_pool *pool, const char *name, size_t name_length, yuz_source source, void *context, enum yuz_receiving mode, const char *origin, size_t origin_length) {
     size_t room = 65536, length = 0;
     if (pool == NULL || source == NULL) return YUZ_NULL;
     uint8_t *bytes = (uint8_t *)malloc(room);
@@ -459,7 +468,7 @@ static inline int yuz_receive_from(yuz_pool *pool, const char *name, size_t name
             else bytes = more, room *= 2;
         }
     }
-    if (code == YUZ_DONE) code = yuz_receive(pool, name, name_length, bytes, length, force);
+    if (code == YUZ_DONE) code = yuz_receive(pool, name, name_length, bytes, length, mode, origin, origin_length);
     free(bytes);
     return code;
 }

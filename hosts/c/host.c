@@ -183,13 +183,13 @@ static int streams(void) {
     done("snapshot", yuz_snapshot(&live, NAME("p@tuesday"), false));
     done("send", yuz_send(&live, NAME("p@tuesday"), NAME("p@monday"), &next_size));
     uint8_t *next = whole_stream(&live, next_size);
-    int code = yuz_receive(&backup, NAME("p/copy@monday"), full, full_size - 1, false);
+    int code = yuz_receive(&backup, NAME("p/copy@monday"), full, full_size - 1, YUZ_RECEIVE_PLAIN, NULL, 0);
     if (code != YUZ_BAD_STREAM) wrong("a cut stream", code);
-    code = yuz_receive(&backup, NAME("p/copy@tuesday"), next, next_size, false);
+    code = yuz_receive(&backup, NAME("p/copy@tuesday"), next, next_size, YUZ_RECEIVE_PLAIN, NULL, 0);
     if (code != YUZ_NO_DATASET) wrong("a stream onto nothing", code);
-    done("receive", yuz_receive(&backup, NAME("p/copy@monday"), full, full_size, false));
+    done("receive", yuz_receive(&backup, NAME("p/copy@monday"), full, full_size, YUZ_RECEIVE_PLAIN, NULL, 0));
     expect_first(&backup, NAME("p/copy"), 97);
-    done("receive", yuz_receive(&backup, NAME("p/copy@tuesday"), next, next_size, false));
+    done("receive", yuz_receive(&backup, NAME("p/copy@tuesday"), next, next_size, YUZ_RECEIVE_PLAIN, NULL, 0));
     expect_first(&backup, NAME("p/copy"), 98);
     expect_first(&backup, NAME("p/copy@monday"), 97);
     printf("streams: %zu bytes in full, %zu from the snapshot before it, received\n", full_size, next_size);
@@ -300,7 +300,7 @@ static int calls(void) {
     expect_all_properties(&pool);
     done("send", yuz_send(&pool, NAME("p@s"), NULL, 0, &size));
     uint8_t *bytes = whole_stream(&pool, size);
-    done("receive", yuz_receive(&pool, NAME("p/copy@s"), bytes, size, false));
+    done("receive", yuz_receive(&pool, NAME("p/copy@s"), bytes, size, YUZ_RECEIVE_PLAIN, NULL, 0));
     expect_first(&pool, NAME("p/copy"), 97);
     free(bytes);
     expect_slices(&pool);
@@ -330,7 +330,7 @@ static int do_write(yuz_pool *pool) { return yuz_write(pool, NAME("p"), 0, 1, le
 static int do_punch(yuz_pool *pool) { return yuz_punch(pool, NAME("p"), 0, 0); }
 static int do_snapshot(yuz_pool *pool) { return yuz_snapshot(pool, NAME("p@t"), true); }
 static int do_abandon(yuz_pool *pool) { return yuz_abandon(pool); }
-static int do_receive(yuz_pool *pool) { return yuz_receive(pool, NAME("p/copy@s"), sent, sent_size, false); }
+static int do_receive(yuz_pool *pool) { return yuz_receive(pool, NAME("p/copy@s"), sent, sent_size, YUZ_RECEIVE_PLAIN, NULL, 0); }
 
 static int do_sync(yuz_pool *pool) {
     uint64_t group;

@@ -248,14 +248,43 @@ static void try_streams(void) {
     done("create", yuz_create(&backup, 2, 1000));
     done("send_to", yuz_send_to(&pool, NAME("p/a@s"), NULL, 0, keep, &kept));
     told_so("a sink that stops", yuz_send_to(&pool, NAME("p/a@s"), NULL, 0, stop, NULL), 42);
-    told_so("a source that fails", yuz_receive_from(&backup, NAME("p/a@s"), fail, NULL, false), YUZ_SOURCE_FAILED);
-    done("receive_from", yuz_receive_from(&backup, NAME("p/a@s"), give, &kept, false));
+    told_so("a source that fails", yuz_receive_from(&backup, NAME("p/a@s"), fail, NULL, YUZ_RECEIVE_PLAIN, NULL, 0), YUZ_SOURCE_FAILED);
+    done("receive_from", yuz_receive_from(&backup, NAME("p/a@s"), give, &kept, YUZ_RECEIVE_PLAIN, NULL, 0));
     expect_line(&backup, "list", "p p/a p/a@s");
     done("diff", yuz_diff(&pool, NAME("p/a@t"), NAME("p/a@s"), count_change, &changed));
     if (changed.written != 1 || !changed.is_second_written || !changed.is_first_hole) wrong("the difference", (int)changed.written);
     memset(&changed, 0, sizeof changed);
     done("diff in full", yuz_diff(&pool, NAME("p/a@s"), NULL, 0, count_change, &changed));
     if (changed.written != 1 || changed.written + changed.holes != 256 * 4096) wrong("all blocks", (int)changed.holes);
+    yuz_free(&pool);
+    yuz_free(&backup);
+}
+
+static int received(yuz_pool *pool, const char *name, const struct kept *stream, enum yuz_receiving mode, const char *origin) {
+    return yuz_receive(pool, name, strlen(name), stream->bytes, stream->length, mode, origin, strlen(origin));
+}
+
+/* A receive past a newer snapshot, as a clone, and in the place of a file system. */
+static void try_receives(void) {
+    yuz_pool pool = YUZ_NO_POOL, backup = YUZ_NO_POOL;
+    static struct kept full, next;
+    prepare(&pool);
+    done("create", yuz_create(&backup, 3, 1000));
+    done("send_to", yuz_send_to(&pool, NAME("p/a@s"), NULL, 0, keep, &full));
+    done("send_to", yuz_send_to(&pool, NAME("p/a@t"), NAME("p/a@s"), keep, &next));
+    done("receive", received(&backup, "p/a@s", &full, YUZ_RECEIVE_PLAIN, ""));
+    done("snapshot", yuz_snapshot(&backup, NAME("p/a@newer"), false));
+    told_so("a receive back", received(&backup, "p/a@t", &next, YUZ_RECEIVE_BACK, ""), YUZ_WRONG_SOURCE);
+    done("a receive past", received(&backup, "p/a@t", &next, YUZ_RECEIVE_PAST, ""));
+    expect_line(&backup, "list", "p p/a p/a@s p/a@t");
+    told_so("of another origin", received(&backup, "p/b@t", &next, YUZ_RECEIVE_ORIGIN, "p/a@t"), YUZ_WRONG_SOURCE);
+    told_so("of no origin", received(&backup, "p/b@t", &next, YUZ_RECEIVE_ORIGIN, ""), YUZ_BAD_NAME);
+    done("a receive as a clone", received(&backup, "p/b@t", &next, YUZ_RECEIVE_ORIGIN, "p/a@s"));
+    expect_line(&backup, "get origin p/b", "p/a@s");
+    told_so("a clone replaced", received(&backup, "p/b@s", &full, YUZ_RECEIVE_REPLACE, ""), YUZ_EXISTS);
+    done("the root replaced", received(&backup, "p@s", &full, YUZ_RECEIVE_REPLACE, ""));
+    expect_line(&backup, "list", "p p@s p/a p/a@s p/a@t p/b p/b@t");
+    told_so("no such mode", received(&backup, "p/d@s", &full, (enum yuz_receiving)5, ""), YUZ_NO_PROPERTY);
     yuz_free(&pool);
     yuz_free(&backup);
 }
@@ -367,6 +396,7 @@ int main(void) {
     try_views();
     try_lists();
     try_streams();
+    try_receives();
     printf("typed: %s, each call tells what its line tells; refused requests for memory:", yuz_version());
     for (size_t i = 0; i < sizeof each / sizeof *each; i++) printf(" %s %ld", each[i].what, refuse_each(each[i].what, each[i].call));
     printf("; nothing was changed\n");

@@ -6,7 +6,7 @@ use std::alloc::Global;
 use std::sync::Wait;
 use std::thread::{Threads, join};
 use yuzgont::{
-    ClosedView, OpenedView, Opening, Pool, Refusal, Request, Seat, Session, Target, View,
+    Book, ClosedView, OpenedView, Opening, Pool, Refusal, Request, Seat, Session, Target, View,
 };
 
 /// How many calls the session takes.
@@ -33,14 +33,17 @@ pub fn four_threads<K: Opening + Send + Sync, R: Threads + Wait + Sync>(
     };
     let outcome = seats_of(rt, alloc, &session);
     let book = session.end();
-    let seats = match outcome {
-        Ok(seats) => seats,
+    match outcome {
+        Ok(seats) => calls_of(book, seats),
         Err(refusal) => {
             drop(book);
-            return Err(refusal);
+            Err(refusal)
         }
-    };
-    // The book compares each seat's receipts with the history.
+    }
+}
+
+// How many calls a history has. The book compares each seat's receipts with it.
+fn calls_of<K: Opening>(book: Book<K>, seats: Vec<Seat<K>>) -> Result<u64, Refusal> {
     match book.close(seats) {
         Ok(closed) => {
             let calls = closed.history.len() as u64;
@@ -62,18 +65,45 @@ fn seats_of<K: Opening + Send + Sync, R: Threads + Wait + Sync>(
     session: &Session<K>,
 ) -> Result<Vec<Seat<K>>, Refusal> {
     let mut own = session.seat(alloc, rt)?;
-    let view = view_of(rt, alloc, session, &mut own)?;
-    let (left, right) = join(
+    let outcome = beside_a_view(rt, alloc, session, &mut own);
+    with_seat(outcome, own)
+}
+
+// The seats, and one more.
+fn with_seat<K: Opening>(
+    outcome: Result<Vec<Seat<K>>, Refusal>,
+    seat: Seat<K>,
+) -> Result<Vec<Seat<K>>, Refusal> {
+    let mut seats = outcome?;
+    seats.reserve(1)?;
+    seats.push_reserved(seat);
+    Ok(seats)
+}
+
+// The seats of three writers beside a view, which is closed then.
+fn beside_a_view<K: Opening + Send + Sync, R: Threads + Wait + Sync>(
+    rt: &R,
+    alloc: Global,
+    session: &Session<K>,
+    own: &mut Seat<K>,
+) -> Result<Vec<Seat<K>>, Refusal> {
+    let view = view_of(rt, alloc, session, own)?;
+    let (seats, is_same) = join(
         rt,
-        || join(
-            rt,
-            || writer(rt, alloc, session, 1),
-            || writer(rt, alloc, session, 2),
-        ),
-        || join(rt, || writer(rt, alloc, session, 3), || sees_monday(&view)),
+        || three_writers(rt, alloc, session),
+        || sees_monday(&view),
     );
-    let is_same = right.1;
-    match session.close_view(alloc, rt, &mut own, view) {
+    let_go(session.close_view(alloc, rt, own, view));
+    if is_same {
+        return seats;
+    }
+    drop(seats);
+    Err(Refusal::Busy)
+}
+
+// Drops what closing a view gives back.
+fn let_go<K: Opening>(outcome: ClosedView<K>) {
+    match outcome {
         ClosedView::Closed(receipt) => drop(receipt),
         ClosedView::Refused(receipt, view) => {
             drop(receipt);
@@ -81,10 +111,33 @@ fn seats_of<K: Opening + Send + Sync, R: Threads + Wait + Sync>(
         }
         ClosedView::NotRun(_, view) => drop(view),
     }
-    if !is_same {
-        return Err(Refusal::Busy);
-    }
-    Ok(vec![in alloc; own, left.0?, left.1?, right.0?]?)
+}
+
+fn three_writers<K: Opening + Send + Sync, R: Threads + Wait + Sync>(
+    rt: &R,
+    alloc: Global,
+    session: &Session<K>,
+) -> Result<Vec<Seat<K>>, Refusal> {
+    let (two, third) = join(
+        rt,
+        || two_writers(rt, alloc, session),
+        || writer(rt, alloc, session, 3),
+    );
+    with_seat(two, third?)
+}
+
+fn two_writers<K: Opening + Send + Sync, R: Threads + Wait + Sync>(
+    rt: &R,
+    alloc: Global,
+    session: &Session<K>,
+) -> Result<Vec<Seat<K>>, Refusal> {
+    let (first, second) = join(
+        rt,
+        || writer(rt, alloc, session, 1),
+        || writer(rt, alloc, session, 2),
+    );
+    let one = with_seat(Ok(Vec::new(alloc)), first?);
+    with_seat(one, second?)
 }
 
 // A view of a snapshot in which block 0 of object 0 is full of the byte 97.
@@ -97,7 +150,12 @@ fn view_of<K: Opening, R: Wait>(
     call(rt, alloc, session, seat, write(alloc, 0, 0, 97)?)?;
     call(rt, alloc, session, seat, snapshot(alloc, b"p@monday")?)?;
     let target = Target::read(alloc, b"p@monday")?;
-    match session.open_view(alloc, rt, seat, target)? {
+    opened(session.open_view(alloc, rt, seat, target)?)
+}
+
+// The view, or NoView where the pool refused it.
+fn opened<K: Opening>(outcome: OpenedView<K>) -> Result<View<K>, Refusal> {
+    match outcome {
         OpenedView::Opened(view, receipt) => {
             drop(receipt);
             Ok(view)
@@ -130,12 +188,23 @@ fn writer<K: Opening, R: Wait>(
     number: u8,
 ) -> Result<Seat<K>, Refusal> {
     let mut seat = session.seat(alloc, rt)?;
-    call(rt, alloc, session, &mut seat, write(alloc, 0, 0, number)?)?;
+    write_all(rt, alloc, session, &mut seat, number)?;
+    Ok(seat)
+}
+
+fn write_all<K: Opening, R: Wait>(
+    rt: &R,
+    alloc: Global,
+    session: &Session<K>,
+    seat: &mut Seat<K>,
+    number: u8,
+) -> Result<(), Refusal> {
+    call(rt, alloc, session, seat, write(alloc, 0, 0, number)?)?;
     for block in 0..WRITES {
         let own = write(alloc, u32::from(number), block, number)?;
-        call(rt, alloc, session, &mut seat, own)?;
+        call(rt, alloc, session, seat, own)?;
     }
-    Ok(seat)
+    Ok(())
 }
 
 // Whether a view shows its block as it was, however often it is read.

@@ -177,4 +177,4 @@ step_maps q r s new same step = followed r s new (rule_of q step.reading) (by_re
     by_request (ToWouldFree name first last) e c = stays s
     by_request (ToSet name limit amount) e c = set_one s name limit amount
     by_request (ToSend target from) e c = stays s
-    by_request (ToReceive snapshot bytes force) e c = changes e
+    by_request (ToReceive snapshot bytes mode) e c = changes e

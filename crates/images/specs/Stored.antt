@@ -54,5 +54,5 @@ abbrev pub changes_maps : Request → Bool
 changes_maps (Write target object block bytes) = true
 changes_maps (Punch target object block) = true
 changes_maps (FreeObject target object) = true
-changes_maps (Receive snapshot bytes force) = true
+changes_maps (Receive snapshot bytes mode) = true
 changes_maps request = false

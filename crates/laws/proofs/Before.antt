@@ -115,7 +115,7 @@ last_left s (ToOpenView target) reading c = inl (by_option {A = FileSystem × Sn
 last_left s (ToClone target name) reading c =
     inl (by_option {A = FileSystem × Snap} s (λ p. with_now s (with_clone s.now (id_of p.1) name)) (λ p. refl) (placed s.now target), refl)
 last_left s (ToPromote name) reading c = inl (by_option {A = Promotion} s (λ p. with_now s (after_promotion s.now name p)) (λ p. refl) (promotion_of s.now name), refl)
-last_left s (ToReceive m bytes force) reading c = inl (by_option {A = Sending} s (λ sent. with_now s (received s.now m sent force c.number)) (λ sent. refl) reading, refl)
+last_left s (ToReceive m bytes mode) reading c = inl (by_option {A = Sending} s (λ sent. with_now s (received s.now m sent mode c.number)) (λ sent. refl) reading, refl)
 last_left s q reading c = inl (refl, refl)
 
 no_group : (why : Refusal) (g : ℕ) → Refused why ≡ GroupIs g → ⊥

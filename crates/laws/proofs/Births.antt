@@ -78,7 +78,19 @@ module _ (w new : World) (o : IsOrdered w) (later : IsLater w new) (births : Has
         born = λ k c h. let b = o.begun in let y = made.young e k c h in (omega arith, omega arith);
         rise = λ k c p h i. let y = made.young e k c h in let z = made.young e (parent k) p i in omega arith;
       }
-      by_origin (Some id) e = subst (IsAged w.group) (sym (made.live id e).1) (was (Snapped id))
+      by_origin (Some id) e = record { born = born; rise = rise }
+        where
+          born : (k : Key) (c : Cell) → get f.live k ≡ Some c → (0 < c.birth) × (c.birth ≤ w.group)
+          born k c h = ⊎_elim
+              (λ same. (was (Snapped id)).born k c (same k (itself_below k) ∙ h))
+              (λ (e : c.birth ≡ w.group). let b = o.begun in (omega arith, omega arith))
+              ((made.live id e).1 k c h)
+
+          rise : AreBirthsRising f.live
+          rise k c p h i = ⊎_elim
+              (λ same. (was (Snapped id)).rise k c p (same k (below_parent k) ∙ h) (same (parent k) (itself_below (parent k)) ∙ i))
+              (λ (e : p.birth ≡ w.group). let b = (born k c h).1 in omega arith)
+              ((made.live id e).1 (parent k) p i)
 
   live_aged : (a : Name) (f : FileSystem) → get new.file_systems a ≡ Some f → IsAged w.group f.live
   live_aged a f at = ⊎_elim (λ (e, is, went). went_aged a e f is went) (λ (none, made). made_aged f made) (later a f at)

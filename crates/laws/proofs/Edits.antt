@@ -16,7 +16,7 @@ use Rattle.model.specs.World.{World, FileSystem, Snap, SnapId, Bookmark, Snapped
 use Rattle.model.specs.requests.Create.{with_new_file_system}
 use Rattle.model.specs.Edits.{with_file_system, with_file_systems, with_tags, without_snaps}
 use Rattle.model.specs.requests.Destroy.{with_deferred, without_file_systems}
-use Rattle.model.specs.requests.Receive.{back_to_newest}
+use Rattle.model.specs.requests.Receive.{back_to_newest, vacated}
 use Rattle.model.specs.requests.Rollback.{back_at}
 use Rattle.model.specs.requests.Snapshot.{snap_of_live, with_snapshot, with_snapshots}
 use Rattle.world.specs.Dead.{IsThere}
@@ -153,6 +153,10 @@ went_back g f t i = record {
   ));
 }
 
+-- it is emptied, and is no clone
+pub went_emptied : (g : ℕ) (f : FileSystem) → f.origin ≡ None → WentOn g f (vacated f)
+went_emptied g f bare = record { origin = sym bare; snaps = λ u h. absurd h; live = λ key c h. absurd (no_value c (sym (get-empty key_cmp key) ∙ h)) }
+
 -- ---- worlds
 
 -- a change of one file system leaves the open group
@@ -211,7 +215,10 @@ module _ (w : World) where
                   let t = from a y u i in
                   let k = made.snaps t.0 t.1 in
                   (t.2 ∙ k.0, t.3 ∙ k.1 ∙ sym (same a y).1);
-              live = λ id is. let k = made.live id (sym (same a y).0 ∙ is) in (k.0, (same a y).1 ∙ k.1);
+              live = λ id is.
+                  let k = made.live id (sym (same a y).0 ∙ is) in
+                  let live = (same a y).1 in
+                  (k.0, λ key c h. ⊎_elim (λ below. inl (λ q l. below q l ∙ ap (λ m. get m q) (sym live))) inr (k.1 key c (ap (λ m. get m key) (sym live) ∙ h)));
               young = λ none key c h. made.young (sym (same a y).0 ∙ none) key c (ap (λ m. get m key) (sym (same a y).1) ∙ h);
             },
           ))
@@ -249,7 +256,14 @@ module _ (w : World) where
   pub added_later : (name : Name) (f : FileSystem) → f.snaps ≡ [] → ((id : SnapId) → f.origin ≡ Some id → IsThere w (Snapped id) × (f.live ≡ map_of w (Snapped id)))
       → (f.origin ≡ None → (key : Key) (c : Cell) → get f.live key ≡ Some c → c.birth ≡ w.group) → get w.file_systems name ≡ None → IsLater w (record w { file_systems = insert w.file_systems name f })
   added_later name f bare live young absent =
-      put_later w name f same_later (inr (absent, record { snaps = λ u i. absurd (subst (λ l. IsIn l u) bare i); live = live; young = young }))
+      put_later w name f same_later (inr (
+        absent,
+        record {
+          snaps = λ u i. absurd (subst (λ l. IsIn l u) bare i);
+          live = λ id e. let k = live id e in (k.0, λ key c h. inl (λ q l. ap (λ m. get m q) (sym k.1)));
+          young = young;
+        },
+      ))
 
   -- an empty one
   pub empty_later : (name : Name) → get w.file_systems name ≡ None → IsLater w (with_new_file_system w name)

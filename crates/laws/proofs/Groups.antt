@@ -10,6 +10,7 @@ use Rattle.base.specs.declared.name.target.Target.TheVariants.{FileSystem as OfF
 use Rattle.stream.specs.Records.{changes_of}
 use Rattle.stream.specs.Spelling.{Sending}
 use Rattle.model.specs.Limits.{limited}
+use Rattle.model.specs.declared.receiving.Receiving.{Receiving}
 use Rattle.model.specs.declared.request.Request.{Request}
 use Rattle.model.specs.declared.request.Request.TheVariants.{Create as ToCreate, Write as ToWrite, Punch as ToPunch, FreeObject as ToFreeObject, Snapshot as ToSnapshot, Read as ToRead, Get as ToGet, PoolGet as ToPoolGet, List as ToList, Rollback as ToRollback, Destroy as ToDestroy, Slice as ToSlice, Sync as ToSync, Abandon as ToAbandon, OpenView as ToOpenView, CloseView as ToCloseView, Clone as ToClone, Promote as ToPromote, Hold as ToHold, Release as ToRelease, Holds as ToHolds, Bookmark as ToBookmark, WrittenSince as ToWrittenSince, WouldFree as ToWouldFree, Set as ToSet, Send as ToSend, Receive as ToReceive}
 use Rattle.model.specs.declared.reply.Reply.{Reply}
@@ -109,13 +110,13 @@ marked w target mark = by_place (placed w target)
     by_place None = refl
     by_place (Some p) = same_group w mark.file_system (λ f. record f { bookmarks = insert f.bookmarks mark.component (bookmark_of_snap p.1) })
 
-got : (s : State) (m : Member) (reading : Option Sending) (force : Bool) (number : Key → ℕ) → s.now.group ≤ (state_received s m reading force number).now.group
+got : (s : State) (m : Member) (reading : Option Sending) (mode : Receiving) (number : Key → ℕ) → s.now.group ≤ (state_received s m reading mode number).now.group
 unfolding received
-got s m None force number = omega arith
-got s m (Some sent) force number =
-    let v = before_receive s.now m.file_system sent force in
+got s m None mode number = omega arith
+got s m (Some sent) mode number =
+    let v = before_receive s.now m.file_system sent mode in
     let u = after_change v m.file_system (changes_of sent.records) number in
-    let a = before_group s.now m sent force in
+    let a = before_group s.now m sent mode in
     let b : u.group ≡ v.group = same_group v m.file_system (λ f. record f { live = rewrite f.live (changes_of sent.records) v.group number }) in
     let c = taken (m ∷ []) u sent.target in
     omega arith
@@ -157,4 +158,4 @@ step_group q r s new step = step_joins (λ w v. w.group ≤ v.group) (λ w. omeg
     by_request (ToWouldFree name first last) c none is = omega arith
     by_request (ToSet name limit amount) c none is = at_least _ _ (same_group s.now name (λ f. limited f limit amount))
     by_request (ToSend target from) c none is = omega arith
-    by_request (ToReceive m bytes force) c none is = got s m step.reading force c.number
+    by_request (ToReceive m bytes mode) c none is = got s m step.reading mode c.number

@@ -15,10 +15,12 @@ use Rattle.base.specs.declared.name.target.Target.TheVariants.{FileSystem as OfF
 use Rattle.stream.specs.Records.{changes_of}
 use Rattle.stream.specs.Spelling.{Sending}
 use Rattle.model.specs.Limits.{limited}
+use Rattle.model.specs.declared.receiving.Receiving.{Receiving}
+use Rattle.model.specs.declared.receiving.Receiving.TheVariants.{Plain, Back, Past, Origin, Replace}
 use Rattle.model.specs.declared.request.Request.{Request}
 use Rattle.model.specs.declared.request.Request.TheVariants.{Create as ToCreate, Write as ToWrite, Punch as ToPunch, FreeObject as ToFreeObject, Snapshot as ToSnapshot, Read as ToRead, Get as ToGet, PoolGet as ToPoolGet, List as ToList, Rollback as ToRollback, Destroy as ToDestroy, Slice as ToSlice, Sync as ToSync, Abandon as ToAbandon, OpenView as ToOpenView, CloseView as ToCloseView, Clone as ToClone, Promote as ToPromote, Hold as ToHold, Release as ToRelease, Holds as ToHolds, Bookmark as ToBookmark, WrittenSince as ToWrittenSince, WouldFree as ToWouldFree, Set as ToSet, Send as ToSend, Receive as ToReceive}
 use Rattle.model.specs.declared.reply.Reply.{Reply}
-use Rattle.model.specs.World.{World, FileSystem, Snap, SnapId, Bookmark, id_of, same_id, snap_at, empty_file_system, map_of_snap}
+use Rattle.model.specs.World.{World, FileSystem, Snap, SnapId, Bookmark, id_of, same_id, snap_at, snap_named, empty_file_system, map_of_snap}
 use Rattle.model.specs.State.{State}
 use Rattle.model.specs.Rule.{Choice}
 use Rattle.model.specs.Edits.{with_file_system, with_file_systems, with_losses, with_tags, with_now, after_change, without_snaps}
@@ -33,7 +35,7 @@ use Rattle.model.specs.requests.Create.{with_new_file_system}
 use Rattle.model.specs.requests.Destroy.{file_systems_named, snaps_named, is_one_of, with_deferred, after_destroy}
 use Rattle.model.specs.requests.OpenView.{with_view}
 use Rattle.model.specs.requests.Promote.{Promotion, promotion_of, promoted, demoted, after_promotion}
-use Rattle.model.specs.requests.Receive.{newest_of, back_to_newest, forced_back, before_receive, received, state_received}
+use Rattle.model.specs.requests.Receive.{newest_of, source_of, back_to_newest, vacated, before_full, before_incremental, before_receive, received, state_received}
 use Rattle.model.specs.requests.Release.{without_tag}
 use Rattle.model.specs.requests.Rollback.{placed, back_at, after_rollback, rolled_back}
 use Rattle.model.specs.requests.Snapshot.{snap_of_live, with_snapshots, snapshots_taken, snapshot_names, guid_by}
@@ -146,24 +148,46 @@ promoted_kept w name p is a at b (f, here, h) =
     (put_cases w.file_systems p.owner (demoted p) a f k.1))
     (put_cases (insert w.file_systems p.owner (demoted p)) name (promoted p) a f here)
 
-before_kept : (w : World) (m : Member) (sent : Sending) (force : Bool) → MarksKept w (before_receive w m.file_system sent force)
-before_kept w m sent force = by_source (sent.source == 0) force
+module _ (w : World) (name : Name) where
+  full_kept : (mode : Receiving) → MarksKept w (before_full w name mode)
+  full_kept Plain = empty_kept w name empty_file_system refl
+  full_kept Back = empty_kept w name empty_file_system refl
+  full_kept Past = empty_kept w name empty_file_system refl
+  full_kept (Origin origin) = empty_kept w name empty_file_system refl
+  full_kept Replace = one_kept w name vacated (λ f at b h. absurd (no_value b (sym (get-empty name_cmp at) ∙ h)))
+
+  incremental_kept : (source : ℕ) (mode : Receiving) → MarksKept w (before_incremental w name source mode)
+  incremental_kept source Plain = λ a at b h. h
+  incremental_kept source Back = by_newest (newest_of w name)
+    where
+      by_newest : (x : Option Snap) → MarksKept w (option_map_or (λ t. with_losses w (with_file_system w name (back_to_newest t))) x w)
+      by_newest None = λ a at b h. h
+      by_newest (Some t) = one_kept w name (back_to_newest t) (λ f at b h. (marks_left f.bookmarks t.group at b h).0)
+  incremental_kept source Past = by_source (source_of w name source)
+    where
+      by_source : (x : Option (FileSystem × Snap)) → MarksKept w (option_map_or (λ (p : FileSystem × Snap). with_losses w (with_file_system w name (λ f. back_at f p.1))) x w)
+      by_source None = λ a at b h. h
+      by_source (Some p) = one_kept w name (λ f. back_at f p.1) (λ f at b h. (marks_left f.bookmarks p.1.group at b h).0)
+  incremental_kept source (Origin origin) = by_snap (snap_named w origin)
+    where
+      by_snap : (x : Option Snap) → MarksKept w (option_map_or (λ (t : Snap). with_clone w (id_of t) name) x w)
+      by_snap None = λ a at b h. h
+      by_snap (Some t) = empty_kept w name (record empty_file_system { live = map_of_snap w (Some (id_of t)); origin = Some (id_of t) }) refl
+  incremental_kept source Replace = λ a at b h. h
+
+before_kept : (w : World) (m : Member) (sent : Sending) (mode : Receiving) → MarksKept w (before_receive w m.file_system sent mode)
+before_kept w m sent mode = by_source (sent.source == 0)
   where
-    forced : (x : Option Snap) → MarksKept w (option_map_or (λ t. with_losses w (with_file_system w m.file_system (back_to_newest t))) x w)
-    forced None = λ a at b h. h
-    forced (Some t) = one_kept w m.file_system (back_to_newest t) (λ f at b h. (marks_left f.bookmarks t.group at b h).0)
+    by_source : (c : Bool) → MarksKept w (if c then before_full w m.file_system mode else before_incremental w m.file_system sent.source mode)
+    by_source true = full_kept w m.file_system mode
+    by_source false = incremental_kept w m.file_system sent.source mode
 
-    by_source : (c f : Bool) → MarksKept w (if c then with_new_file_system w m.file_system else if f then forced_back w m.file_system else w)
-    by_source true f = empty_kept w m.file_system empty_file_system refl
-    by_source false true = forced (newest_of w m.file_system)
-    by_source false false = λ a at b h. h
-
-received_kept : (w : World) (m : Member) (sent : Sending) (force : Bool) (number : Key → ℕ) → MarksKept w (received w m sent force number)
+received_kept : (w : World) (m : Member) (sent : Sending) (mode : Receiving) (number : Key → ℕ) → MarksKept w (received w m sent mode number)
 unfolding received
-received_kept w m sent force number a at b h =
-    let v = before_receive w m.file_system sent force in
+received_kept w m sent mode number a at b h =
+    let v = before_receive w m.file_system sent mode in
     let u = after_change v m.file_system (changes_of sent.records) number in
-    before_kept w m sent force a at b (written_kept v m.file_system (changes_of sent.records) number a at b (taken_kept (m ∷ []) u sent.target a at b h))
+    before_kept w m sent mode a at b (written_kept v m.file_system (changes_of sent.records) number a at b (taken_kept (m ∷ []) u sent.target a at b h))
 
 -- ---- a bookmark made
 
@@ -263,9 +287,9 @@ tagged w target tags = by_place (placed w target)
     by_place None = λ a at b h. h
     by_place (Some p) = tags_kept w (id_of p.1) (tags p.1)
 
-got : (s : State) (m : Member) (reading : Option Sending) (force : Bool) (number : Key → ℕ) → MarksKept s.now (state_received s m reading force number).now
-got s m None force number = λ a at b h. h
-got s m (Some sent) force number = received_kept s.now m sent force number
+got : (s : State) (m : Member) (reading : Option Sending) (mode : Receiving) (number : Key → ℕ) → MarksKept s.now (state_received s m reading mode number).now
+got s m None mode number = λ a at b h. h
+got s m (Some sent) mode number = received_kept s.now m sent mode number
 
 -- ---- steps
 
@@ -307,4 +331,4 @@ step_marks q r s new step = step_joins MarksFrom (λ w a at b h. inl h) swept_ma
     by_request (ToWouldFree name first last) c none is = same
     by_request (ToSet name limit amount) c none is = λ a at b h. inl (one_kept s.now name (λ f. limited f limit amount) (λ f at b h. h) a at b h)
     by_request (ToSend target from) c none is = same
-    by_request (ToReceive m bytes force) c none is = λ a at b h. inl (got s m step.reading force c.number a at b h)
+    by_request (ToReceive m bytes mode) c none is = λ a at b h. inl (got s m step.reading mode c.number a at b h)

@@ -18,12 +18,14 @@ use Rattle.base.specs.declared.name.target.Target.TheVariants.{FileSystem as OfF
 use Rattle.stream.specs.Records.{changes_of}
 use Rattle.stream.specs.Spelling.{Sending}
 use Rattle.model.specs.Limits.{limited}
+use Rattle.model.specs.declared.receiving.Receiving.{Receiving}
+use Rattle.model.specs.declared.receiving.Receiving.TheVariants.{Plain, Back, Past, Origin, Replace}
 use Rattle.model.specs.declared.request.Request.{Request}
 use Rattle.model.specs.declared.request.Request.TheVariants.{Create as ToCreate, Write as ToWrite, Punch as ToPunch, FreeObject as ToFreeObject, Snapshot as ToSnapshot, Read as ToRead, Get as ToGet, PoolGet as ToPoolGet, List as ToList, Rollback as ToRollback, Destroy as ToDestroy, Slice as ToSlice, Sync as ToSync, Abandon as ToAbandon, OpenView as ToOpenView, CloseView as ToCloseView, Clone as ToClone, Promote as ToPromote, Hold as ToHold, Release as ToRelease, Holds as ToHolds, Bookmark as ToBookmark, WrittenSince as ToWrittenSince, WouldFree as ToWouldFree, Set as ToSet, Send as ToSend, Receive as ToReceive}
 use Rattle.model.specs.declared.reply.Reply.{Reply}
-use Rattle.model.specs.World.{World, FileSystem, Snap, SnapId, Bookmark, id_of, file_system_at, empty_file_system, map_of_snap, clones_of}
+use Rattle.model.specs.World.{World, FileSystem, Snap, SnapId, Bookmark, id_of, file_system_at, snap_named, empty_file_system, map_of_snap, clones_of}
 use Rattle.model.specs.State.{State, Views, is_viewed}
-use Rattle.model.specs.Rule.{Choice}
+use Rattle.model.specs.Rule.{Choice, first_of}
 use Rattle.model.specs.Edits.{with_file_system, with_tags, with_losses, without_snaps, with_now, after_change}
 use Rattle.model.specs.Outcome.{is_needed, state_after_sweep}
 use Rattle.model.specs.Refusals.{state_asked, refusal_of}
@@ -36,7 +38,7 @@ use Rattle.model.specs.requests.Create.{with_new_file_system, create_row, create
 use Rattle.model.specs.requests.Destroy.{file_systems_named, snaps_named, snaps_within, is_one_of, without_file_systems, with_deferred, after_destroy, destroy_system_row, destroy_snap_row, destroy_rule}
 use Rattle.model.specs.requests.OpenView.{with_view}
 use Rattle.model.specs.requests.Promote.{Promotion, promotion_of, after_promotion}
-use Rattle.model.specs.requests.Receive.{newest_of, back_to_newest, forced_back, before_receive, received, state_received, receive_rule}
+use Rattle.model.specs.requests.Receive.{newest_of, source_of, back_to_newest, forced_back, back_past, cloned_from, vacated, emptied, before_full, before_incremental, before_receive, received, snaps_past, full_row, incremental_row, stream_row, state_received, receive_rule}
 use Rattle.model.specs.requests.Release.{without_tag}
 use Rattle.model.specs.requests.Rollback.{placed, snaps_after, back_at, after_rollback, rolled_back, newer_snaps, has_clone_outside, rollback_row, rollback_rule}
 use Rattle.model.specs.requests.Snapshot.{snapshots_taken, snapshot_names, guid_by, has_twice, snapshot_row, snapshot_rule}
@@ -48,7 +50,7 @@ use Rattle.world.proofs.lists.Listed.{in_map, map_in}
 use Rattle.world.proofs.lists.Maps.{same_value, no_value, at_entry, key_cases, get-insert_same, get-insert_other, get-remove_same, get-remove_other}
 use Rattle.world.proofs.steps.States.{in_clones, positive, swept_bare}
 use Rattle.world.proofs.views.Viewed.{IsSafe, snap_found, one_changed}
-use Rattle.world.proofs.views.ViewedReceives.{receive_absent}
+use Rattle.world.proofs.views.ViewedReceives.{stream_none, no_full, no_incremental, new_absent, origin_absent, replaced_bare, replaced_alone, past_alone, from_named, from_source, snap_within}
 use Rattle.world.proofs.views.ViewedRequests.{row_false, not_some, from_placed}
 use Rattle.world.proofs.removals.WithoutSnaps.{any_from}
 use Rattle.laws.specs.Lineages.{IsOrdered, origin_group}
@@ -220,23 +222,75 @@ module _ (w : World) (o : IsOrdered w) where
       by_newest None = o
       by_newest (Some t) = losses_ordered (with_file_system w name (back_to_newest t)) (newest_ordered name t) w
 
-  before_ordered : (m : Member) (sent : Sending) (force : Bool) → ((sent.source == 0) ≡ true → get w.file_systems m.file_system ≡ None)
-      → IsOrdered (before_receive w m.file_system sent force)
-  before_ordered m sent force absent = by_source (sent.source == 0) refl force
+  past_ordered : (name : Name) (guid : ℕ) → has_clone_outside w [] (snaps_past w name guid) ≡ false → IsOrdered (back_past w name guid)
+  past_ordered name guid alone = by_source (source_of w name guid) refl alone
     where
-      by_source : (b : Bool) → (sent.source == 0) ≡ b → (f : Bool)
-          → IsOrdered (if b then with_new_file_system w m.file_system else if f then forced_back w m.file_system else w)
-      by_source true e f = empty_ordered m.file_system (absent e)
-      by_source false e true = forced_ordered m.file_system
-      by_source false e false = o
+      by_source : (x : Option (FileSystem × Snap)) → source_of w name guid ≡ x
+          → has_clone_outside w [] (option_map_or (λ (p : FileSystem × Snap). map id_of (snaps_after p.0 p.1.group)) x []) ≡ false
+          → IsOrdered (option_map_or (λ (p : FileSystem × Snap). with_losses w (with_file_system w name (λ f. back_at f p.1))) x w)
+      by_source None e free = o
+      by_source (Some p) e free =
+          let k = from_source w name guid p e in
+          losses_ordered (with_file_system w name (λ f. back_at f p.1))
+          (back_ordered name p.0 p.1 k.0 (λ u h l. none_outside w (map id_of (snaps_after p.0 p.1.group)) free (id_of u)
+          (map_in (λ (u : Snap). id_of u) (snaps_after p.0 p.1.group) u (in_filter (λ (u : Snap). nat_lt p.1.group u.group) p.0.snaps u h (lt-ltb p.1.group u.group l))))) w
 
-received_ordered : (w : World) → IsOrdered w → (m : Member) (sent : Sending) (force : Bool) (number : Key → ℕ)
-    → ((sent.source == 0) ≡ true → get w.file_systems m.file_system ≡ None) → IsOrdered (received w m sent force number)
+  cloned_ordered : (name : Name) (origin : Member) → get w.file_systems name ≡ None → IsOrdered (cloned_from w name origin)
+  cloned_ordered name origin absent = by_snap (snap_named w origin) refl
+    where
+      by_snap : (x : Option Snap) → snap_named w origin ≡ x → IsOrdered (option_map_or (λ (t : Snap). with_clone w (id_of t) name) x w)
+      by_snap None e = o
+      by_snap (Some t) e =
+          let k = from_named w origin t e in
+          added_ordered w o name (record empty_file_system { live = map_of_snap w (Some (id_of t)); origin = Some (id_of t) }) refl
+          (λ at b h. no_value b (sym (get-empty name_cmp at) ∙ h))
+          (λ id i. (origin.file_system, k.0, t, k.1, k.2, same_value (id_of t) id i))
+          absent
+
+  -- emptied, where it is no clone and none of its snapshots has one
+  emptied_ordered : (name : Name) → ((f : FileSystem) → get w.file_systems name ≡ Some f → f.origin ≡ None) → has_clone_outside w [] (snaps_within w (name ∷ [])) ≡ false
+      → IsOrdered (emptied w name)
+  emptied_ordered name bare alone = losses_ordered (with_file_system w name vacated) (one_ordered w o name vacated safe.once safe.closed
+      (λ f at. record {
+        origin = sym (bare f at);
+        rising = λ up. tt;
+        marks = λ mark b h. absurd (no_value b (sym (get-empty name_cmp mark) ∙ h));
+        stays = λ t h. inr (none_outside w (snaps_within w (name ∷ [])) alone (id_of t) (snap_within w name f at t h));
+      })) w
+    where
+      safe : IsSafe finmap.empty w (with_file_system w name vacated)
+      safe = one_changed finmap.empty w name vacated o.once o.closed (λ f t at h. absurd h) (λ f t at h seen. absurd (unviewed (id_of t) seen))
+
+  module _ (views : Views) (m : Member) where
+    full_ordered : (mode : Receiving) → first_of (full_row w views m mode) ≡ None → IsOrdered (before_full w m.file_system mode)
+    full_ordered Plain e = empty_ordered m.file_system (new_absent w m.file_system e)
+    full_ordered Back e = empty_ordered m.file_system (new_absent w m.file_system e)
+    full_ordered Past e = empty_ordered m.file_system (new_absent w m.file_system e)
+    full_ordered (Origin origin) e = no_full w views m origin e
+    full_ordered Replace e = emptied_ordered m.file_system (replaced_bare w views m.file_system e) (replaced_alone w views m.file_system e)
+
+    incremental_ordered : (source : ℕ) (mode : Receiving) → first_of (incremental_row w views m source mode) ≡ None → IsOrdered (before_incremental w m.file_system source mode)
+    incremental_ordered source Plain e = o
+    incremental_ordered source Back e = forced_ordered m.file_system
+    incremental_ordered source Past e = past_ordered m.file_system source (past_alone w views m source e)
+    incremental_ordered source (Origin origin) e = cloned_ordered m.file_system origin (origin_absent w m.file_system origin source e)
+    incremental_ordered source Replace e = no_incremental w views m source e
+
+    before_ordered : (sent : Sending) (mode : Receiving) → first_of (stream_row w views m sent mode) ≡ None → IsOrdered (before_receive w m.file_system sent mode)
+    before_ordered sent mode none = by_source (sent.source == 0) none
+      where
+        by_source : (b : Bool) → first_of (if b then full_row w views m mode else incremental_row w views m sent.source mode) ≡ None
+            → IsOrdered (if b then before_full w m.file_system mode else before_incremental w m.file_system sent.source mode)
+        by_source true e = full_ordered mode e
+        by_source false e = incremental_ordered sent.source mode e
+
+received_ordered : (w : World) → IsOrdered w → (views : Views) (m : Member) (sent : Sending) (mode : Receiving) (number : Key → ℕ) → first_of (stream_row w views m sent mode) ≡ None
+    → IsOrdered (received w m sent mode number)
 unfolding received
-received_ordered w o m sent force number absent =
-    let v = before_receive w m.file_system sent force in
+received_ordered w o views m sent mode number none =
+    let v = before_receive w m.file_system sent mode in
     taken_ordered (after_change v m.file_system (changes_of sent.records) number)
-    (written_ordered v (before_ordered w o m sent force absent) m.file_system (changes_of sent.records) number) sent.target (m ∷ []) refl
+    (written_ordered v (before_ordered w o views m sent mode none) m.file_system (changes_of sent.records) number) sent.target (m ∷ []) refl
 
 -- ---- requests
 
@@ -309,10 +363,10 @@ promoted_on s o name = by_promotion (promotion_of s.now name) refl
     by_promotion None e = o
     by_promotion (Some p) e = turned_ordered s.now o name p e
 
-got : (s : State) → IsOrdered s.now → (m : Member) (reading : Option Sending) (force : Bool) (number : Key → ℕ) → refusal_of s (receive_rule m reading force) ≡ None
-    → IsOrdered (state_received s m reading force number).now
-got s o m None force number none = o
-got s o m (Some sent) force number none = received_ordered s.now o m sent force number (receive_absent s m sent force none)
+got : (s : State) → IsOrdered s.now → (m : Member) (reading : Option Sending) (mode : Receiving) (number : Key → ℕ) → refusal_of s (receive_rule m reading mode) ≡ None
+    → IsOrdered (state_received s m reading mode number).now
+got s o m None mode number none = o
+got s o m (Some sent) mode number none = received_ordered s.now o s.views m sent mode number (stream_none s m sent mode none)
 
 -- ---- steps
 
@@ -354,4 +408,4 @@ step_ordered q r s new step =
     by_request (ToWouldFree name first last) c none is o = o
     by_request (ToSet name limit amount) c none is o = kept_ordered s.now o name (λ f. limited f limit amount) (λ f. refl) (λ f. refl) (λ f mark b at h. o.marks name mark f b at h)
     by_request (ToSend target from) c none is o = o
-    by_request (ToReceive m bytes force) c none is o = got s o m step.reading force c.number none
+    by_request (ToReceive m bytes mode) c none is o = got s o m step.reading mode c.number none

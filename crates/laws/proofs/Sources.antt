@@ -206,16 +206,24 @@ module _ (w new : World) (lines : HasLineages w) (o' : IsOrdered new) (later : I
       kept_map new o' name f t (id_of t) at h refl ∙ (made.snaps t h).1
 
   made_shares : (name : Name) (f : FileSystem) → get new.file_systems name ≡ Some f → IsMade w f → (older newer : List Snap) → f.snaps ≡ older ++ newer
-      → (id : SnapId) → previous_of new (next_in name newer) ≡ Some id → map_of new (Snapped id) ≡ map_of new (next_in name newer)
-  made_shares name f at made older newer split id e = ⊎_elim
-      (λ k.
-      let l = made.live id k in
-      of_kept w new lines.order o' later id l.0 (o'.origins name f id at k) ∙ sym l.1)
-      (λ (u, h, same).
-      let i = subst (λ l. IsIn l u) (sym split) (in_left older newer u h) in
-      kept_map new o' name f u id at i (sym same) ∙ (made.snaps u i).1)
-      (by_prev new o' name f at older newer split id e)
-      ∙ sym (made_map name f at made older newer split)
+      → (id : SnapId) → previous_of new (next_in name newer) ≡ Some id → SharesUntil id.group (map_of new (Snapped id)) (map_of new (next_in name newer))
+  made_shares name f at made older newer split id e = subst (SharesUntil id.group (map_of new (Snapped id))) (sym (made_map name f at made older newer split))
+      (⊎_elim of_origin of_snap (by_prev new o' name f at older newer split id e))
+    where
+      -- its origin has what it has of a closed group
+      of_origin : f.origin ≡ Some id → SharesUntil id.group (map_of new (Snapped id)) f.live
+      of_origin k key below c h born l =
+          let made_of = made.live id k in
+          let closed = there_closed w lines.order id made_of.0 in
+          ⊎_elim
+          (λ same. ap (λ m. get m below) (of_kept w new lines.order o' later id made_of.0 (o'.origins name f id at k)) ∙ same below l)
+          (λ (young : c.birth ≡ w.group). absurd (omega arith))
+          (made_of.1 key c h)
+
+      of_snap : (u : Snap) × IsIn older u × (id ≡ id_of u) → SharesUntil id.group (map_of new (Snapped id)) f.live
+      of_snap (u, h, same) key below c was born l =
+          let i = subst (λ l. IsIn l u) (sym split) (in_left older newer u h) in
+          ap (λ m. get m below) (kept_map new o' name f u id at i (sym same) ∙ (made.snaps u i).1)
 
   pub lineages_go_on : HasLineages new
   lineages_go_on = record {
@@ -228,6 +236,6 @@ module _ (w new : World) (lines : HasLineages w) (o' : IsOrdered new) (later : I
         went_shares p.name f p.system is p.at r.0 d (subst (λ y. IsBefore new r.0 (Live p.name) y) (sym p.is) r.1) id e)
         (λ (none, made).
         let same = made_shares p.name p.system p.at made p.older p.newer p.snaps_are id (ap (previous_of new) (sym p.is) ∙ e) in
-        λ key below c h born l. ap (λ m. get m below) (same ∙ ap (map_of new) (sym p.is)))
+        subst (λ y. SharesUntil id.group (map_of new (Snapped id)) (map_of new y)) (sym p.is) same)
         (later p.name p.system p.at);
   }

@@ -244,4 +244,4 @@ step_became q r s new step =
     by_request (ToWouldFree name first last) c none is o = went (same_later s.now)
     by_request (ToSet name limit amount) c none is o = went (set_one s.now name limit amount)
     by_request (ToSend target from) c none is o = went (same_later s.now)
-    by_request (ToReceive m bytes force) c none is o = went (got s o m step.reading force c.number none)
+    by_request (ToReceive m bytes mode) c none is o = went (got s o m step.reading mode c.number none)

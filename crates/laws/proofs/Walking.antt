@@ -30,11 +30,12 @@ pub record WentOn (g : ℕ) (f later : FileSystem) : Type 0 where
   pub live : (key : Key) (c : Cell) → get later.live key ≡ Some c
       → IsSameBelow key f.live later.live ⊎ (c.birth ≡ g) ⊎ ((v : Snap) × IsIn f.snaps v × IsNewest g v later × IsSameBelow key v.map later.live)
 
--- a file system that is made in a step: it has the map of its origin, or blocks of the open group alone, and no snapshots but of that group
--- and that map
+-- a file system that is made in a step: what it has its origin has, with all below, or is born in the open group, and all is where it has no
+-- origin; and it has no snapshots but of that group and that map
 pub record IsMade (w : World) (f : FileSystem) : Type 0 where
   pub snaps : (u : Snap) → IsIn f.snaps u → (u.group ≡ w.group) × (u.map ≡ f.live)
-  pub live : (id : SnapId) → f.origin ≡ Some id → IsThere w (Snapped id) × (f.live ≡ map_of w (Snapped id))
+  pub live : (id : SnapId) → f.origin ≡ Some id
+      → IsThere w (Snapped id) × ((key : Key) (c : Cell) → get f.live key ≡ Some c → IsSameBelow key (map_of w (Snapped id)) f.live ⊎ (c.birth ≡ w.group))
   pub young : f.origin ≡ None → (key : Key) (c : Cell) → get f.live key ≡ Some c → c.birth ≡ w.group
 
 -- a file system of this name went on so, or is made

@@ -70,7 +70,7 @@ IsReadingOfBytes bytes None = IsNoStream bytes
 
 -- what the bytes of a request say; only a receive has any (zfs-receive(8))
 abbrev pub IsReadingOf : Request → Option Sending → Type 0
-IsReadingOf (ToReceive snapshot bytes force) reading = IsReadingOfBytes bytes reading
+IsReadingOf (ToReceive snapshot bytes mode) reading = IsReadingOfBytes bytes reading
 IsReadingOf request reading = reading ≡ None
 
 -- the rule of a request whose bytes say this (the page of each subcommand)
@@ -101,7 +101,7 @@ rule_of (ToWrittenSince target since) reading = written_since_rule target since
 rule_of (ToWouldFree name first last) reading = would_free_rule name first last
 rule_of (ToSet name limit amount) reading = set_rule name limit amount
 rule_of (ToSend target from) reading = send_rule target from
-rule_of (ToReceive snapshot bytes force) reading = receive_rule snapshot reading force
+rule_of (ToReceive snapshot bytes mode) reading = receive_rule snapshot reading mode
 
 -- where it isn't refused, the reply is Done (profile)
 abbrev pub AnswersDone : Request → Type 0

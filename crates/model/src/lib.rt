@@ -4,6 +4,7 @@
 pub mod entry;
 pub mod limits;
 pub mod names;
+pub mod receiving;
 pub mod reply;
 pub mod request;
 pub mod sight;

@@ -2,6 +2,7 @@
 ghost use Rattle.std.specs.Prelude.{◌≡◌, ◌↔◌, IsTrue};
 
 use crate::limits::Limit;
+use crate::receiving::Receiving;
 use crate::snap_names::SnapNames;
 use base::data::Data;
 use base::limit::Blocks;
@@ -245,17 +246,26 @@ pub enum Request {
         from: Option<Target>,
     },
     /// Receives a stream as a snapshot of this name, with the sender's guid (zfs-receive(8)). A full stream goes into a new file system. An
-    /// incremental one goes into the file system whose newest snapshot is its source; with `force` (-F) the file system is rolled back to that
-    /// snapshot first, and its bookmarks of a later group go. The reply is Done. It is refused with BadStream where the bytes are not a stream. A
-    /// full stream is then refused with Exists where the file system exists, NoParent where its parent doesn't. An incremental one is refused with
-    /// NoDataset where the file system doesn't exist, Exists where the snapshot does, WrongSource where the newest snapshot isn't the source,
-    /// Modified where the live map isn't that snapshot's and `force` isn't set. Then follow TooMany where there are 1,024 file systems and one is
-    /// new, 65,536 snapshots, or the open group is the last one, and then Quota, RefQuota or NoSpace as a write is. The refusal is the first of these
-    /// that applies, or NoMemory.
+    /// incremental one goes into the file system whose newest snapshot is its source. `mode` says what else a receive may begin with. The reply is
+    /// Done. It is refused with BadStream where the bytes are not a stream, where a full stream comes at `Origin`, and where an incremental one
+    /// comes at `Replace`. Then follow:
+    ///
+    /// - for a full stream, Exists where the file system exists, NoParent where its parent doesn't;
+    /// - for a full stream at `Replace`, NoDataset where the file system doesn't exist, Exists where it is a clone;
+    /// - for an incremental stream, NoDataset where the file system doesn't exist, Exists where the snapshot does, WrongSource where the newest
+    ///   snapshot isn't the source, Modified where the live map isn't that snapshot's and the mode isn't `Back`;
+    /// - for an incremental stream at `Past`, NoDataset where the file system doesn't exist, WrongSource where none of its snapshots is the
+    ///   source, Exists where the snapshot does and would stay;
+    /// - for an incremental stream at `Origin`, NoDataset where the origin doesn't exist, Deferred where its destroy is deferred, WrongSource where
+    ///   it isn't the source, and then what a full stream is refused with.
+    ///
+    /// Where snapshots would go, Busy follows where one of them has a tag or an open view, and HasClones where one has a clone. Then follow TooMany
+    /// where there are 1,024 file systems and one is new, where there would be more than 65,536 snapshots, or the open group is the last one, and
+    /// then Quota, RefQuota or NoSpace as a write is. The refusal is the first of these that applies, or NoMemory.
     Receive {
         snapshot: SnapName,
         bytes: Bytes,
-        force: bool,
+        mode: Receiving,
     },
 }
 
@@ -417,14 +427,14 @@ impl Request {
                 Request::Receive {
                     snapshot: n,
                     bytes: a,
-                    force: f,
+                    mode: f,
                 },
                 Request::Receive {
                     snapshot: m,
                     bytes: b,
-                    force: g,
+                    mode: g,
                 },
-            ) => n.same(m) && a.same(b) && *f == *g,
+            ) => n.same(m) && a.same(b) && f.same(g),
             _ => false,
         }
     }

@@ -1,5 +1,5 @@
 -- What a receive makes of a world.
-use Rattle.std.proofs.Common.{◌≡◌, ◌<◌, ◌^◌, ℕ, List, Bool, Option, None, Ok, false, map, subst}
+use Rattle.std.proofs.Common.{◌≡◌, ◌<◌, ◌^◌, ℕ, List, Option, None, Ok, false, map, subst}
 use Rattle.std.specs.FinSet as set
 use Rattle.std.specs.declared.alloc.Global.{Global}
 use Rattle.std.specs.declared.vec.Vec.{Vec}
@@ -9,6 +9,7 @@ use Rattle.datasets.specs.Rows.{live_of}
 use Rattle.image.specs.BlockWrites.{writes_of, written_pair}
 use Rattle.tree.specs.ChangeParts.{made_pair}
 use Rattle.zalloc.specs.declared.BlockState.{BlockState}
+use Rattle.model.specs.declared.receiving.Receiving.{Receiving}
 use Rattle.model.specs.Numbers.{HasStates}
 use Rattle.model.specs.State.{State}
 use Rattle.model.specs.World.{union_of}
@@ -37,18 +38,19 @@ use Rattle.pool.proofs.Performed.{unlimited}
 
 -- what a sound pool keeps is what a receive looks at
 pub present : (s : State) (numbers : List BlockState) → IsSound s numbers → (p : Present) → numbers ≡ p.allocator.now → datasets_of s ≡ p.table.now
-    → s.now.freeing ≡ p.freeing.now → s.last.group ≡ p.synced.0 → s.size ≡ p.size → (p.is_limited ≡ false → IsUnlimited s.now.file_systems) → IsPresent s p
-present s numbers sound p known datasets freeing synced size unlimited = record {
+    → s.now.freeing ≡ p.freeing.now → s.views ≡ p.views.now.opened → s.last.group ≡ p.synced.0 → s.size ≡ p.size → (p.is_limited ≡ false → IsUnlimited s.now.file_systems) → IsPresent s p
+present s numbers sound p known datasets freeing views synced size unlimited = record {
   steady = sound.steady;
   states = subst (HasStates s) known sound.states;
   datasets = datasets;
   freeing = freeing;
+  views = views;
   synced = synced;
   size = size;
   unlimited = unlimited;
 }
 
-module _ (k : Keep) (w : World) (held : IsHeld k w) (m : Member) (bytes : List ℕ) (force : Bool) (i : Intake) (is : IsIntakeOf (state_in k w) m bytes force i) where
+module _ (k : Keep) (w : World) (held : IsHeld k w) (m : Member) (bytes : List ℕ) (mode : Receiving) (i : Intake) (is : IsIntakeOf (state_in k w) m bytes mode i) where
   abbrev s : State
   s = state_in k w
 
@@ -63,7 +65,7 @@ module _ (k : Keep) (w : World) (held : IsHeld k w) (m : Member) (bytes : List �
 
   -- the live tree has a block at each key that the receive tells
   pub intake_present : ArePresent (live_of i.to.file_systems m.file_system) i.done.made.items
-  intake_present = present_blocks s held.sound.steady.good m force is.sent i is.made is.can.steady.good
+  intake_present = present_blocks s held.sound.steady.good m mode is.sent i is.made is.can.steady.good
 
   -- the ledger that is kept can be brought up to date
   pub intake_counted : CanRecount (datasets_of s) i.to m.file_system w.ledger
@@ -71,7 +73,7 @@ module _ (k : Keep) (w : World) (held : IsHeld k w) (m : Member) (bytes : List �
 
   pub intake_performed : (ledger : Option (List Line)) → IsAccounted i.to ledger
       → (blocks : Vec (BlockNo × List ℕ) Global) → map written_pair blocks.items ≡ writes_of (live_of i.to.file_systems m.file_system) (map made_pair i.done.made.items)
-      → IsPerformed s k.numbers.present (record { table = i.to; freeing = i.freeing; ledger = ledger }) (Receive m bytes force) (Ok (Blocks i.done (Each blocks)))
+      → IsPerformed s k.numbers.present (record { table = i.to; freeing = i.freeing; ledger = ledger }) (Receive m bytes mode) (Ok (Blocks i.done (Each blocks)))
   intake_performed ledger kept blocks told = (
     record {
       sound = sound (Each blocks);
@@ -79,9 +81,9 @@ module _ (k : Keep) (w : World) (held : IsHeld k w) (m : Member) (bytes : List �
       may = (
         receive_release s held.sound.steady k.numbers.present held.sound.states i.to i.freeing _ _ is.can,
         receive_take s held.sound.steady k.numbers.present held.sound.states i.to i.freeing _ _ is.can,
-        each_may s held.sound.steady.good m force is.sent i is.made is.can.steady.good blocks told,
+        each_may s held.sound.steady.good m mode is.sent i is.made is.can.steady.good blocks told,
       );
-      leads = each_leads s held.sound.steady.good m force is.sent i is.made is.can.steady.good blocks told;
+      leads = each_leads s held.sound.steady.good m mode is.sent i is.made is.can.steady.good blocks told;
     },
     is.step,
   )

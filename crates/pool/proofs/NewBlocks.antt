@@ -1,6 +1,6 @@
 -- What a receive leaves to be written.
-use Rattle.std.proofs.Common.{◌≡◌, ◌<◌, ◌+◌, ◌-◌, ◌*◌, ℕ, Bool, true, false, cond, List, [], ◌∷◌, Option, Some, None, length, map, refl, sym, ap, subst, ◌∙◌, inl, inr, ⊎_elim, unwrap_or}
-use Rattle.std.specs.Prelude.{◌==◌, IfSome, IsSome, is_some, if◌then◌else◌}
+use Rattle.std.proofs.Common.{◌≡◌, ◌<◌, ◌+◌, ◌-◌, ◌*◌, ℕ, Bool, true, false, ◌⊎◌, cond, List, [], ◌∷◌, Option, Some, None, length, map, refl, sym, ap, subst, ◌∙◌, inl, inr, ⊎_elim, unwrap_or}
+use Rattle.std.specs.Prelude.{◌==◌, IfSome, IsSome, is_some, nat_le, if◌then◌else◌}
 use Rattle.std.specs.List.{All, last_or, range_with_len}
 use Rattle.std.specs.Option.{option_map, option_map_or, option_and_then}
 use Rattle.std.specs.FinMap.{get, insert}
@@ -22,18 +22,25 @@ use Rattle.stream.specs.Records.{changes_of}
 use Rattle.stream.specs.Spelling.{Sending}
 use Rattle.tree.specs.Change.{IsChange}
 use Rattle.tree.specs.ChangeParts.{made_pair}
+use Rattle.model.specs.declared.receiving.Receiving.{Receiving}
+use Rattle.model.specs.declared.receiving.Receiving.TheVariants.{Plain, Back, Past, Origin, Replace}
 use Rattle.model.specs.State.{State}
-use Rattle.model.specs.World.{World, FileSystem, Snap, Live, map_of, empty_file_system}
+use Rattle.model.specs.World.{World, FileSystem, Snap, SnapId, Live, id_of, snap_at, snap_named, maps_of, map_of, map_of_snap, empty_file_system}
 use Rattle.model.specs.Edits.{with_now, with_losses, with_file_system}
 use Rattle.model.specs.requests.Create.{with_new_file_system}
-use Rattle.model.specs.requests.Receive.{newest_of, back_to_newest, before_receive, forced_back}
+use Rattle.model.specs.requests.Clone.{with_clone}
+use Rattle.model.specs.requests.Receive.{newest_of, source_of, back_to_newest, vacated, before_full, before_incremental, before_receive}
+use Rattle.model.specs.requests.Rollback.{back_at}
+use Rattle.world.proofs.views.ViewedReceives.{from_source}
+use Rattle.laws.proofs.Receiving.{before_group}
 use Rattle.world.specs.Shapes.{Name}
 use Rattle.world.specs.Tables.{Datasets}
 use Rattle.world.specs.Worlds.{AreMapsFrom, IsPoolState, InNow, maps_of_both}
-use Rattle.world.proofs.lineage.Bridge.{map_of_live}
+use Rattle.world.proofs.lineage.Bridge.{map_of_live, from_snap_at}
 use Rattle.world.proofs.lineage.Put.{put_here, put_maps}
 use Rattle.world.proofs.lists.Listed.{in_map, map_in}
-use Rattle.world.proofs.lists.Maps.{some_of}
+use Rattle.world.proofs.lists.Maps.{some_of, same_value}
+use Rattle.world.proofs.lists.Finding.{from_filter}
 use Rattle.world.proofs.steps.Groups.{same_maps}
 use Rattle.datasets.specs.Writes.{young_of}
 use Rattle.datasets.specs.Rows.{live_of, with_snap}
@@ -72,40 +79,73 @@ all_in P (x ∷ xs) h = All-cons P x xs (h x (inl refl)) (all_in P xs (λ y i. h
 
 -- ---- what a receive begins with has maps of the present world
 
-begun_from : (w : World) (name : Name) (sent : Sending) (force : Bool) → AreMapsFrom w.file_systems (before_receive w name sent force).file_systems
-begun_from w name sent force = by_source (sent.source == 0) force
+module _ (w : World) (name : Name) where
+  new_from : AreMapsFrom w.file_systems (with_new_file_system w name).file_systems
+  new_from = put_maps w.file_systems name empty_file_system (λ m h. ⊎_elim (λ (e : m ≡ finmap.empty). inl e) (λ none. absurd none) h)
+
+  full_from : (mode : Receiving) → AreMapsFrom w.file_systems (before_full w name mode).file_systems
+  full_from Plain = new_from
+  full_from Back = new_from
+  full_from Past = new_from
+  full_from (Origin origin) = new_from
+  full_from Replace = by_system (get w.file_systems name)
+    where
+      by_system : (x : Option FileSystem) → AreMapsFrom w.file_systems (option_map_or (λ (f : FileSystem). record w { file_systems = insert w.file_systems name (vacated f) }) x w).file_systems
+      by_system None = same_maps w.file_systems
+      by_system (Some f) = put_maps w.file_systems name (vacated f) (λ m h. ⊎_elim (λ (e : m ≡ finmap.empty). inl e) (λ none. absurd none) h)
+
+  -- a clone has the map of a snapshot
+  clone_from : (id : SnapId) → AreMapsFrom w.file_systems (with_clone w id name).file_systems
+  unfolding map_of
+  clone_from id = put_maps w.file_systems name (record empty_file_system { live = map_of_snap w (Some id); origin = Some id })
+      (λ m h. ⊎_elim (λ (e : m ≡ map_of_snap w (Some id)). by_snap m (snap_at w id) refl e) (λ none. absurd none) h)
+    where
+      by_snap : (m : Map) (x : Option (Name × Snap)) → snap_at w id ≡ x → m ≡ option_map_or (λ (p : Name × Snap). p.1.map) (snap_at w id) finmap.empty
+          → (m ≡ finmap.empty) ⊎ ((other : Name) × (t : FileSystem) × (get w.file_systems other ≡ Some t) × IsIn (maps_of t) m)
+      by_snap m None e is = inl (is ∙ ap (λ x. option_map_or (λ (p : Name × Snap). p.1.map) x finmap.empty) e)
+      by_snap m (Some p) e is =
+          let k = from_snap_at w id p e in
+          inr (p.0, k.0, k.1, of_snap k.0 p.1 m k.2 (is ∙ ap (λ x. option_map_or (λ (p : Name × Snap). p.1.map) x finmap.empty) e))
+
+  incremental_from : (source : ℕ) (mode : Receiving) → AreMapsFrom w.file_systems (before_incremental w name source mode).file_systems
+  incremental_from source Plain = same_maps w.file_systems
+  incremental_from source Back = by_newest (newest_of w name) refl
+    where
+      by_newest : (x : Option Snap) → newest_of w name ≡ x → AreMapsFrom w.file_systems (option_map_or (λ (t : Snap). with_losses w (with_file_system w name (back_to_newest t))) x w).file_systems
+      by_newest None e = same_maps w.file_systems
+      by_newest (Some t) e = changed_from w name (back_to_newest t) (λ f m at h. ⊎_elim
+          (λ (is : m ≡ t.map). of_snap f t m (newest_there f.snaps t (newest_at f at)) is)
+          inr
+          h)
+        where
+          newest_at : (f : FileSystem) → get w.file_systems name ≡ Some f → last_or None f.snaps ≡ Some t
+          newest_at f at = ap (λ x. option_and_then (λ (f : FileSystem). last_or None f.snaps) x) (sym at) ∙ e
+  incremental_from source Past = by_source (source_of w name source) refl
+    where
+      by_source : (x : Option (FileSystem × Snap)) → source_of w name source ≡ x
+          → AreMapsFrom w.file_systems (option_map_or (λ (p : FileSystem × Snap). with_losses w (with_file_system w name (λ f. back_at f p.1))) x w).file_systems
+      by_source None e = same_maps w.file_systems
+      by_source (Some p) e =
+          let k = from_source w name source p e in
+          changed_from w name (λ f. back_at f p.1) (λ f m at h.
+          let same = same_value p.0 f (sym k.0 ∙ at) in
+          ⊎_elim
+          (λ (is : m ≡ p.1.map). of_snap f p.1 m (subst (λ (x : FileSystem). IsIn x.snaps p.1) same k.1) is)
+          (λ i. let u = in_map (λ (t : Snap). t.map) (back_at f p.1).snaps m i in of_snap f u.0 m (from_filter (λ (t : Snap). nat_le t.group p.1.group) f.snaps u.0 u.1).0 u.2)
+          h)
+  incremental_from source (Origin origin) = by_snap (snap_named w origin)
+    where
+      by_snap : (x : Option Snap) → AreMapsFrom w.file_systems (option_map_or (λ (t : Snap). with_clone w (id_of t) name) x w).file_systems
+      by_snap None = same_maps w.file_systems
+      by_snap (Some t) = clone_from (id_of t)
+  incremental_from source Replace = same_maps w.file_systems
+
+begun_from : (w : World) (name : Name) (sent : Sending) (mode : Receiving) → AreMapsFrom w.file_systems (before_receive w name sent mode).file_systems
+begun_from w name sent mode = by_source (sent.source == 0)
   where
-    by_newest : (x : Option Snap) → newest_of w name ≡ x → AreMapsFrom w.file_systems (option_map_or (λ (t : Snap). with_losses w (with_file_system w name (back_to_newest t))) x w).file_systems
-    by_newest None e = same_maps w.file_systems
-    by_newest (Some t) e = changed_from w name (back_to_newest t) (λ f m at h. ⊎_elim
-        (λ (is : m ≡ t.map). of_snap f t m (newest_there f.snaps t (newest_at f at)) is)
-        inr
-        h)
-      where
-        newest_at : (f : FileSystem) → get w.file_systems name ≡ Some f → last_or None f.snaps ≡ Some t
-        newest_at f at = ap (λ x. option_and_then (λ (f : FileSystem). last_or None f.snaps) x) (sym at) ∙ e
-
-    by_source : (a b : Bool) → AreMapsFrom w.file_systems (if a then with_new_file_system w name else if b then forced_back w name else w).file_systems
-    by_source true b = put_maps w.file_systems name empty_file_system (λ m h. ⊎_elim (λ (e : m ≡ finmap.empty). inl e) (λ none. absurd none) h)
-    by_source false true = by_newest (newest_of w name) refl
-    by_source false false = same_maps w.file_systems
-
--- and its open group
-begun_group : (w : World) (name : Name) (sent : Sending) (force : Bool) → (before_receive w name sent force).group ≡ w.group
-begun_group w name sent force = by_source (sent.source == 0) force
-  where
-    by_system : (t : Snap) (x : Option FileSystem) → (option_map_or (λ (f : FileSystem). record w { file_systems = insert w.file_systems name (back_to_newest t f) }) x w).group ≡ w.group
-    by_system t None = refl
-    by_system t (Some f) = refl
-
-    by_newest : (x : Option Snap) → (option_map_or (λ (t : Snap). with_losses w (with_file_system w name (back_to_newest t))) x w).group ≡ w.group
-    by_newest None = refl
-    by_newest (Some t) = by_system t (get w.file_systems name)
-
-    by_source : (a b : Bool) → (if a then with_new_file_system w name else if b then forced_back w name else w).group ≡ w.group
-    by_source true b = refl
-    by_source false true = by_newest (newest_of w name)
-    by_source false false = refl
+    by_source : (b : Bool) → AreMapsFrom w.file_systems (if b then before_full w name mode else before_incremental w name sent.source mode).file_systems
+    by_source true = full_from w name mode
+    by_source false = incremental_from w name sent.source mode
 
 -- ---- bytes of blocks
 
@@ -119,16 +159,16 @@ long_bytes n m tree k c there = by_level (k.level == 0) refl
 
 -- ---- the receive
 
-module _ (s : State) (good : IsPoolState s) (m : Member) (force : Bool) (sent : Sending) (i : Intake) (is : IsMadeOf s m force sent i) (after : IsPoolState (put_freeing s i.to i.freeing)) where
+module _ (s : State) (good : IsPoolState s) (m : Member) (mode : Receiving) (sent : Sending) (i : Intake) (is : IsMadeOf s m mode sent i) (after : IsPoolState (put_freeing s i.to i.freeing)) where
   abbrev w : World
-  w = before_receive s.now m.file_system sent force
+  w = before_receive s.now m.file_system sent mode
 
   abbrev name : Name
   name = m.file_system
 
   -- the state that it begins with
   abbrev begun : State
-  begun = with_now s (before_receive s.now m.file_system sent force)
+  begun = with_now s (before_receive s.now m.file_system sent mode)
 
   abbrev now : World
   now = record s.now { file_systems = i.to.file_systems; group = i.to.group; freeing = i.freeing }
@@ -136,7 +176,7 @@ module _ (s : State) (good : IsPoolState s) (m : Member) (force : Bool) (sent : 
   abbrev f : FileSystem
   f = is.there.0.0
 
-  abbrev there : get (before_receive s.now m.file_system sent force).file_systems m.file_system ≡ Some is.there.0.0
+  abbrev there : get (before_receive s.now m.file_system sent mode).file_systems m.file_system ≡ Some is.there.0.0
   there = is.there.0.1
 
   abbrev new : Map
@@ -145,10 +185,10 @@ module _ (s : State) (good : IsPoolState s) (m : Member) (force : Bool) (sent : 
   abbrev ch : Changes
   ch = changes_of sent.records
 
-  change : IsChange is.there.0.0.live (changes_of sent.records) (before_receive s.now m.file_system sent force).group (young_of (datasets_of begun) m.file_system s.last.group) is.states is.change.change
+  change : IsChange is.there.0.0.live (changes_of sent.records) (before_receive s.now m.file_system sent mode).group (young_of (datasets_of begun) m.file_system s.last.group) is.states is.change.change
   change = subst (λ x. IsChange x ch w.group (young_of (datasets_of begun) name s.last.group) is.states is.change.change) (ap (λ x. option_map_or (λ (f : FileSystem). f.live) x finmap.empty) there) is.change.is
 
-  written : is.written.file_systems ≡ insert (before_receive s.now m.file_system sent force).file_systems m.file_system (record is.there.0.0 { live = is.change.change.new })
+  written : is.written.file_systems ≡ insert (before_receive s.now m.file_system sent mode).file_systems m.file_system (record is.there.0.0 { live = is.change.change.new })
   written = ap (λ (t : Datasets). t.file_systems) is.change.to_is ∙ ap (λ x. option_map_or (λ (f : FileSystem). insert w.file_systems name (record f { live = new })) x w.file_systems) there
 
   written_at : get is.written.file_systems m.file_system ≡ Some (record is.there.0.0 { live = is.change.change.new })
@@ -167,7 +207,7 @@ module _ (s : State) (good : IsPoolState s) (m : Member) (force : Bool) (sent : 
   live_now : live_of i.to.file_systems m.file_system ≡ is.change.change.new
   live_now = ap (λ x. option_map_or (λ (g : FileSystem). g.live) x finmap.empty) kept_at
 
-  beside : AreMapsBeside is.change.change.new (before_receive s.now m.file_system sent force).file_systems i.to.file_systems
+  beside : AreMapsBeside is.change.change.new (before_receive s.now m.file_system sent mode).file_systems i.to.file_systems
   beside = subst (AreMapsBeside new w.file_systems) (sym kept)
       (kept_beside w.file_systems name (record f { live = new }) new _ refl is.written.file_systems (subst (AreMapsBeside new w.file_systems) (sym written) (put_beside w.file_systems name f there new)) written_at refl)
 
@@ -178,9 +218,9 @@ module _ (s : State) (good : IsPoolState s) (m : Member) (force : Bool) (sent : 
   unique = unique_in (maps_of_both now s.last) (InNow (Live name)) new here after.pair.cells
 
   from_now : (image : ℕ → List ℕ) → IsStored s image → IsStored begun image
-  from_now image stored = stored_stay s begun good image (record { now = inl (begun_from s.now name sent force); last = inr (same_maps s.last.file_systems) }) stored
+  from_now image stored = stored_stay s begun good image (record { now = inl (begun_from s.now name sent mode); last = inr (same_maps s.last.file_systems) }) stored
 
-  old_map : map_of (before_receive s.now m.file_system sent force) (Live m.file_system) ≡ is.there.0.0.live
+  old_map : map_of (before_receive s.now m.file_system sent mode) (Live m.file_system) ≡ is.there.0.0.live
   old_map = map_of_live w name f there
 
   rises : (image : ℕ → List ℕ) → IsStored begun image → AreBirthsRising is.change.change.new
@@ -235,7 +275,7 @@ module _ (s : State) (good : IsPoolState s) (m : Member) (force : Bool) (sent : 
     each_new = subst (AreMade s (put_freeing s i.to i.freeing)) (sym are)
         (all_new s (put_freeing s i.to i.freeing) name new live_now (writes_of new is.change.change.made) (λ v j.
         let k = each_young f.live ch w.group (young_of (datasets_of begun) name s.last.group) is.states is.change.change change unique v j in
-        (k.0, k.1, k.2, k.3, k.4 ∙ begun_group s.now name sent force)))
+        (k.0, k.1, k.2, k.3, k.4 ∙ before_group s.now m sent mode)))
 
     pub each_leads : LeadsTo s (put_freeing s i.to i.freeing) (Each blocks)
     each_leads = record { stored = each_stored; made = λ image. each_new }

@@ -15,7 +15,7 @@ abbrev pub changes_blocks : Request → Bool
 changes_blocks (Write target object block bytes) = true
 changes_blocks (Punch target object block) = true
 changes_blocks (FreeObject target object) = true
-changes_blocks (Receive snapshot bytes force) = true
+changes_blocks (Receive snapshot bytes mode) = true
 changes_blocks (Slice count) = true
 changes_blocks request = false
 
@@ -32,7 +32,7 @@ reaches_lists (Rollback target later) = true
 reaches_lists (Promote name) = true
 reaches_lists (Destroy target recursive defer) = true
 reaches_lists (Release tag target) = true
-reaches_lists (Receive snapshot bytes force) = true
+reaches_lists (Receive snapshot bytes mode) = true
 reaches_lists (CloseView view) = true
 reaches_lists Abandon = true
 reaches_lists (Slice count) = true

@@ -92,8 +92,8 @@ impl Keep {
             Request::Receive {
                 snapshot,
                 bytes,
-                force,
-            } => self.receive(alloc, world, snapshot, bytes, *force, meters),
+                mode,
+            } => self.receive(alloc, world, snapshot, bytes, mode, meters),
             Request::CloseView { view } => self.close(alloc, world, *view, &mut meters.segments),
             Request::Slice { count } => self.slice(world, *count, meters),
             Request::Sync => self.sync(alloc, world),

@@ -10,6 +10,7 @@ use crate::worlds::World;
 use base::name::SnapName;
 use base::text::Bytes;
 use images::{Writes, blocks_in};
+use model::receiving::Receiving;
 use std::alloc::Global;
 use steps::{Intake, Present, intake_of, recount};
 
@@ -21,11 +22,11 @@ impl Keep {
         world: &mut World,
         snapshot: &SnapName,
         bytes: &Bytes,
-        force: bool,
+        mode: &Receiving,
         meters: &mut Meters,
     ) -> Performed<'static>
         requires { IsHeld self.now world.old }
-        ensures performed { IsPerformed (state_in self.now world.old) self.now.numbers.present world.new (Request.Receive snapshot.now bytes.now force) result }
+        ensures performed { IsPerformed (state_in self.now world.old) self.now.numbers.present world.new (Request.Receive snapshot.now bytes.now mode.now) result }
         ensures blocks { IfOk result WritesBlocks }
         ensures unchanged { OnErr result (world.new ≡ world.old) }
         ensures never_lower { meters.old.blocks ≤ meters.new.blocks }
@@ -34,6 +35,7 @@ impl Keep {
         let present = Present {
             table: &world.table,
             freeing: &world.freeing,
+            views: &self.views,
             synced: self.last.table.group(),
             allocator: self.numbers.present(),
             size: self.size,
@@ -44,7 +46,7 @@ impl Keep {
             present,
             snapshot,
             bytes.as_slice(),
-            force,
+            mode,
             &mut meters.blocks,
             &mut meters.segments,
         )?;

@@ -1,19 +1,6 @@
-//! Tests of `model` and `pool` from outside, of what no line shows. Lines with their replies stand in `rows`.
+//! Tests of what no line shows: replies, names and entries, compared by value. `pool_rows` has rows for a pool, and `rows` lines with their
+//! replies.
 #![tactic(auto)]
 
-#[cfg(test)]
-mod damaged;
-#[cfg(test)]
-mod image_moments;
-#[cfg(test)]
-mod image_walks;
-#[cfg(test)]
-mod pools;
-#[cfg(test)]
-mod scripts;
-#[cfg(test)]
-mod settings;
-#[cfg(test)]
-mod streams;
 #[cfg(test)]
 mod values;

@@ -1,6 +1,5 @@
-//! Requests, replies and entries, compared by value.
-use base::data::Data;
-use base::name::{DsName, SnapName, Target};
+//! Names, replies and entries, compared by value.
+use base::name::SnapName;
 use base::refusal::Refusal;
 use base::text::Bytes;
 use laws::{lineage_laws, run_laws};
@@ -11,62 +10,6 @@ use model::request::{PoolProperty, Property, Request};
 use model::snap_names::SnapNames;
 use std::alloc::Global;
 use std::process::Abort;
-
-fn target(rt: &impl Abort, alloc: Global, bytes: &[u8]) -> Target {
-    Target::read(alloc, bytes).expect(rt, "memory for a name")
-}
-
-fn write(rt: &impl Abort, alloc: Global, bytes: &[u8], block: u32, byte: u8) -> Request {
-    Request::Write {
-        target: target(rt, alloc, bytes),
-        object: 0,
-        block,
-        bytes: Data::new(alloc, &[byte; 512]).expect(rt, "memory for a block"),
-    }
-}
-
-fn read(rt: &impl Abort, alloc: Global, bytes: &[u8], block: u32) -> Request {
-    Request::Read {
-        target: target(rt, alloc, bytes),
-        object: 0,
-        block,
-    }
-}
-
-/// Whether two requests are the same.
-fn are_same(one: Request, other: Request) -> bool {
-    let same = one.same(&other);
-    drop(one);
-    drop(other);
-    same
-}
-
-fn is_the_write(rt: &impl Abort, alloc: Global, name: &[u8], block: u32, byte: u8) -> bool {
-    let one = write(rt, alloc, name, block, byte);
-    are_same(one, write(rt, alloc, b"p", 1, 7))
-}
-
-#[test]
-fn writes_compared(rt: HostRuntime) {
-    let alloc = rt.alloc();
-    assert!(rt;
-        is_the_write(&rt, alloc, b"p", 1, 7)
-            && !is_the_write(&rt, alloc, b"p/a", 1, 7)
-            && !is_the_write(&rt, alloc, b"p", 2, 7)
-            && !is_the_write(&rt, alloc, b"p", 1, 8)
-    );
-}
-
-fn creation(rt: &impl Abort, alloc: Global, bytes: &[u8]) -> Request {
-    Request::Create {
-        name: DsName::read(alloc, bytes).expect(rt, "memory for a name"),
-    }
-}
-
-fn are_same_creations(rt: &impl Abort, alloc: Global, one: &[u8], other: &[u8]) -> bool {
-    let one = creation(rt, alloc, one);
-    are_same(one, creation(rt, alloc, other))
-}
 
 fn snap_names(rt: &impl Abort, alloc: Global, first: &[u8]) -> SnapNames {
     let name = SnapName::read(alloc, first).expect(rt, "memory for a name");
@@ -105,42 +48,6 @@ fn names_of_snapshots_compared(rt: HostRuntime) {
     assert!(rt;
         !is_none(alloc, snap_names(&rt, alloc, b"p@s"))
             && is_none(alloc, SnapNames::from(Vec::new(alloc)))
-    );
-}
-
-// Whether a request for a snapshot is the one for `p@s` with its descendants.
-fn is_the_snapshot(rt: &impl Abort, alloc: Global, name: &[u8], recursive: bool) -> bool {
-    let names = snap_names(rt, alloc, name);
-    let one = Request::Snapshot { names, recursive };
-    let names = snap_names(rt, alloc, b"p@s");
-    let recursive = true;
-    are_same(one, Request::Snapshot { names, recursive })
-}
-
-#[test]
-fn snapshots_compared(rt: HostRuntime) {
-    let alloc = rt.alloc();
-    assert!(rt;
-        is_the_snapshot(&rt, alloc, b"p@s", true)
-            && !is_the_snapshot(&rt, alloc, b"p@s", false)
-            && !is_the_snapshot(&rt, alloc, b"p@t", true)
-    );
-}
-
-fn is_the_read(rt: &impl Abort, alloc: Global, one: Request) -> bool {
-    are_same(one, read(rt, alloc, b"p", 1))
-}
-
-#[test]
-fn requests_compared(rt: HostRuntime) {
-    let alloc = rt.alloc();
-    assert!(rt;
-        is_the_read(&rt, alloc, read(&rt, alloc, b"p", 1))
-            && !is_the_read(&rt, alloc, write(&rt, alloc, b"p", 1, 7))
-            && are_same_creations(&rt, alloc, b"p/a", b"p/a")
-            && !are_same_creations(&rt, alloc, b"p/a", b"p/b")
-            && are_same(Request::List, Request::List)
-            && !are_same(Request::List, Request::Sync)
     );
 }
 

@@ -4,5 +4,10 @@ pub mod Newest
 pub mod Refusals
 pub mod Created
 pub mod Forced
+pub mod Leaving
+pub mod Past
+pub mod Replaced
+pub mod Sourced
+pub mod Started
 pub mod Ready
 pub mod Finished

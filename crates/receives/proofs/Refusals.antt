@@ -1,5 +1,5 @@
 -- Why a receive is refused.
-use Rattle.std.proofs.Common.{◌≡◌, ℕ, ◌+◌, ◌≤◌, ◌<◌, Bool, true, false, not, cond, ◌||◌, Option, Some, None, refl, sym, ap, ◌∙◌, true≢false, arith}
+use Rattle.std.proofs.Common.{◌≡◌, ℕ, ◌+◌, ◌≤◌, ◌<◌, Bool, true, false, not, cond, ◌||◌, Option, Some, None, refl, sym, ap, subst, ◌∙◌, true≢false, ◌-◌, List, ◌∷◌, arith}
 use Rattle.std.specs.Prelude.{nat_lt, nat_le, nat_eq, is_some, ◌==◌, if◌then◌else◌}
 use Rattle.std.proofs.lemmas.Bool.Decides.{nat_tests, Decides-eqb, Decides-like, same_from_decides}
 use Rattle.std.specs.FinMap as finmap
@@ -15,12 +15,14 @@ use Rattle.base.specs.declared.name.member.Member.{Member}
 use Rattle.base.specs.declared.number.Guid.{Guid}
 use Rattle.stream.specs.Spelling.{Sending, source_guid}
 use Rattle.model.specs.Hierarchy.{file_system_limit, has_parent}
-use Rattle.model.specs.Rule.{first_of}
-use Rattle.model.specs.requests.Create.{create_row, create_refusal}
-use Rattle.model.specs.requests.Receive.{same_map, has_no_room, full_row, incremental_row}
+use Rattle.model.specs.declared.receiving.Receiving.{Receiving}
+use Rattle.model.specs.State.{Views}
+use Rattle.model.specs.Rule.{Row, first_of}
+use Rattle.model.specs.requests.Create.{create_refusal}
+use Rattle.model.specs.requests.Receive.{same_map, has_no_room, new_row, full_row, incremental_row}
 use Rattle.datasets.specs.Rows.{snap_count}
 use Rattle.world.specs.Tables.{Datasets, world_of}
-use Rattle.world.proofs.lists.Maps.{no_value}
+use Rattle.world.proofs.lists.Maps.{same_value, no_value}
 use Rattle.removals.proofs.Rooms.{snaps_counted}
 use Rattle.receives.specs.Requests.{receive_refusal}
 use Rattle.receives.proofs.Alike.{decides_map, same_by_counts, counts_of_same}
@@ -30,8 +32,11 @@ use Rattle.receives.proofs.Alike.{decides_map, same_by_counts, counts_of_same}
 one_more : (most n : ℕ) → nat_lt most (n + 1) ≡ nat_le most n
 one_more most n = Prim.grind (arith, nat_tests)
 
-pub room_is : (w : World) → has_no_room w ≡ (nat_le 65536 (snap_count w.file_systems) || nat_le 9223372036854775807 w.group)
-room_is w = λ i. (ap (λ n. nat_lt 65536 (n + 1)) (snaps_counted w) ∙ one_more 65536 (snap_count w.file_systems)) i || one_more 9223372036854775807 w.group i
+one_instead : (most going n : ℕ) → 0 < most → nat_lt (most + going) (n + 1) ≡ nat_le most (n - going)
+one_instead most going n some = Prim.grind (arith, nat_tests)
+
+pub room_is : (w : World) (going : ℕ) → has_no_room w going ≡ (nat_le 65536 (snap_count w.file_systems - going) || nat_le 9223372036854775807 w.group)
+room_is w going = λ i. (ap (λ n. nat_lt (65536 + going) (n + 1)) (snaps_counted w) ∙ one_instead 65536 going (snap_count w.file_systems) (Prim.omega arith)) i || one_more 9223372036854775807 w.group i
 
 -- ---- a full stream
 
@@ -73,21 +78,46 @@ by_counts live kept n a b is none ul uk al bk one = same_from_decides (nat_eq a 
 
 -- ---- what nothing refuses
 
+-- the rows' conditions, by the source's test
+abbrev row_by : Datasets → Views → Member → Sending → Receiving → Bool → Row
+row_by t views m s mode b = if b then full_row (world_of t) views m mode else incremental_row (world_of t) views m s.source mode
+
 abbrev source_by : Bool → ℕ → Option Guid
 source_by b n = if b then None else Some (record { 0 = n })
 
--- a full stream's file system can be made
-pub can_make : (t : Datasets) (m : Member) (s : Sending) (force : Bool) → receive_refusal t m s force ≡ None → is_some (source_guid s.source) ≡ false → create_refusal t.file_systems m.file_system ≡ None
+-- a full stream's row
+pub full_none : (t : Datasets) (views : Views) (m : Member) (s : Sending) (mode : Receiving) → receive_refusal t views m s mode ≡ None → is_some (source_guid s.source) ≡ false
+    → first_of (full_row (world_of t) views m mode) ≡ None
+full_none t views m s mode none full = by_source (s.source == 0) none full
+  where
+    by_source : (b : Bool) → first_of (row_by t views m s mode b) ≡ None → is_some (source_by b s.source) ≡ false → first_of (full_row (world_of t) views m mode) ≡ None
+    by_source true e k = e
+    by_source false e k = absurd (true≢false k)
+
+-- that of one from a source
+pub incremental_none : (t : Datasets) (views : Views) (m : Member) (s : Sending) (mode : Receiving) → receive_refusal t views m s mode ≡ None → (g : Guid) → source_guid s.source ≡ Some g
+    → first_of (incremental_row (world_of t) views m g.0 mode) ≡ None
+incremental_none t views m s mode none g is = by_source (s.source == 0) none is
+  where
+    by_source : (b : Bool) → first_of (row_by t views m s mode b) ≡ None → source_by b s.source ≡ Some g → first_of (incremental_row (world_of t) views m g.0 mode) ≡ None
+    by_source true e k = absurd (no_value g k)
+    by_source false e k = subst (λ (x : Guid). first_of (incremental_row (world_of t) views m x.0 mode) ≡ None) (same_value (record { 0 = s.source }) g k) e
+
+-- the rest of a row that refuses nothing
+pub rest_none : (r : Bool × Refusal) (rs : Row) → first_of (r ∷ rs) ≡ None → first_of rs ≡ None
+rest_none r rs e = by_first r.0 e
+  where
+    by_first : (b : Bool) → cond b (Some r.1) (first_of rs) ≡ None → first_of rs ≡ None
+    by_first true k = absurd (no_value r.1 (sym k))
+    by_first false k = k
+
+-- a file system can be made
+pub can_make : (w : World) (name : List ℕ) → first_of (new_row w name) ≡ None → create_refusal w.file_systems name ≡ None
 unfolding create_refusal
-can_make t m s force none full = by_source (s.source == 0) none full
+can_make w name = by_tests (contains_key w.file_systems name) (not (has_parent w.file_systems name)) (nat_le file_system_limit (len w.file_systems)) (has_no_room w 0)
   where
     by_tests : (there orphan many full : Bool) → full_by there orphan many full ≡ None → cond {A = Option Refusal} there (Some Exists) (cond orphan (Some NoParent) (cond many (Some TooMany) None)) ≡ None
     by_tests true orphan many full k = absurd (no_value Exists (sym k))
     by_tests false true many full k = absurd (no_value NoParent (sym k))
     by_tests false false true full k = absurd (no_value TooMany (sym k))
     by_tests false false false full k = refl
-
-    by_source : (b : Bool) → first_of (if b then full_row (world_of t) m else incremental_row (world_of t) m s.source force) ≡ None → is_some (source_by b s.source) ≡ false
-        → first_of (create_row t.file_systems m.file_system) ≡ None
-    by_source true e k = by_tests (contains_key t.file_systems m.file_system) (not (has_parent t.file_systems m.file_system)) (nat_le file_system_limit (len t.file_systems)) (has_no_room (world_of t)) e
-    by_source false e k = absurd (true≢false k)

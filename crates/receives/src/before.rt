@@ -1,59 +1,60 @@
 //! The datasets that a receive begins with.
-ghost use Rattle.std.specs.Prelude.{◌≡◌, ◌≤◌, ◌⊎◌, Some, None, IfSome, IfOk, IfErr, OnOk};
-ghost use Rattle.std.specs.Option.{option_copied};
+ghost use Rattle.std.specs.Prelude.{◌≡◌, ◌≤◌, ◌⊎◌, Some, None, IsSome, IfSome, IfOk, IfErr, OnOk};
 ghost use Rattle.base.specs.declared.refusal.Refusal.{Refusal};
-ghost use Rattle.model.specs.World.{empty_file_system, union_of};
+ghost use Rattle.model.specs.State.{Views as OpenViews};
+ghost use Rattle.model.specs.World.{empty_file_system, union_of, snap_named};
 ghost use Rattle.model.specs.requests.Create.{create_refusal};
-ghost use Rattle.model.specs.requests.Receive.{newest_of};
 ghost use Rattle.world.specs.Sets.{AreDisjoint};
 ghost use Rattle.world.specs.Tables.{world_of, with_system};
 ghost use Rattle.removals.specs.Edits.{HasLost};
 ghost use Rattle.receives.specs.Ends.{CanFinish};
-ghost use Rattle.receives.specs.Requests.{begun, back, receive_refusal};
+ghost use Rattle.receives.specs.Requests.{begun, cloned, receive_refusal};
 
-use crate::refused::{newest_of, receive_refusal};
+use crate::going::{back_past, forced_back, replaced};
+use crate::refused::receive_refusal;
 use base::meter::SegMeter;
 use base::name::{DsName, Member, SnapName};
 use base::refusal::Refusal;
-use datasets::{Snapshot, Table};
+use datasets::Table;
 use destroyer::Freeing;
-use removals::{WorkingCopy, remove_newer_bookmarks};
+use model::receiving::Receiving;
+use removals::WorkingCopy;
 use std::alloc::Global;
 use stream::Stream;
+use views::Views;
 
-/// The datasets that a receive of this stream as a snapshot of this name begins with. For a full stream they have a new file system. For an
-/// incremental one they are as they stand, or with `force` have the file system rolled back to its newest snapshot: the blocks that are lost are
-/// to be freed, and the bookmarks that are newer than that snapshot are destroyed. The table and what it has to free stay as they are. Refused
-/// are, for a full stream, Exists where the file system is there, else NoParent where its parent isn't, else TooMany where there are 1,024 file
-/// systems; and for an incremental one NoDataset where the file system isn't there, else Exists where the snapshot is, else WrongSource where
-/// the newest snapshot isn't the stream's source, else Modified where the live map isn't that snapshot's and `force` isn't set; else for both
-/// TooMany where there are 65,536 snapshots or the open group is the last one; else NoMemory where memory is refused, or as `Table::rollback`
-/// says (zfs-receive(8), -F; the order and numbers are profile). It costs the number of file systems, the chunks of pieces that are to be freed,
-/// the logarithm of the number of the file system's snapshots, and with `force` the number of them with the segments of their dead lists, and
-/// that of its bookmarks. No block is visited.
+/// The datasets that a receive of this stream as a snapshot of this name begins with: those that are there, and for a full stream a new file
+/// system. By the mode the file system may go back to its newest snapshot or to the stream's source, be a clone of that, or be emptied. The blocks
+/// that it loses are to be freed. The table and what it has to free stay as they are. Refused is what `receive_refusal` says, else NoMemory where
+/// memory is refused, or as `Table::rollback` says (zfs-receive(8), -F, -o origin; the order and numbers are profile). It costs the number of file
+/// systems, the chunks of pieces that are to be freed and the logarithm of the number of the file system's snapshots. Where the file system goes
+/// back or is emptied it also costs the number of its snapshots with the segments of their dead lists, the number of its bookmarks, and for each
+/// snapshot that goes what its destroy costs and the number of open views. No block is visited.
 pub fn begin(
     alloc: Global,
     table: &Table,
     freeing: &Freeing,
+    views: &Views,
     name: &SnapName,
     stream: &Stream,
-    force: bool,
+    mode: &Receiving,
     segments: &mut SegMeter,
 ) -> Result<WorkingCopy, Refusal>
     requires apart { AreDisjoint (union_of (world_of table.now)) freeing.now }
-    ensures ok { IfOk result (λ e. e.to ≡ begun table.now name.now.file_system stream.now force) }
+    ensures ok { IfOk result (λ e. e.to ≡ begun table.now name.now.file_system stream.now mode.now) }
     ensures lost { IfOk result (λ e. HasLost table.now freeing.now e.to e.freeing) }
     ensures ready { IfOk result (λ e. CanFinish e.to name.now) }
-    ensures can { OnOk result (receive_refusal table.now name.now stream.now force ≡ None) }
-    ensures refused { IfSome (receive_refusal table.now name.now stream.now force) (λ e. result ≡ Err e) }
-    ensures only { IfErr result (λ e. (receive_refusal table.now name.now stream.now force ≡ Some e) ⊎ (e ≡ Refusal.NoMemory)) }
+    ensures can { OnOk result (receive_refusal table.now views.now.opened name.now stream.now mode.now ≡ None) }
+    ensures refused { IfSome (receive_refusal table.now views.now.opened name.now stream.now mode.now) (λ e. result ≡ Err e) }
+    ensures only { IfErr result (λ e. (receive_refusal table.now views.now.opened name.now stream.now mode.now ≡ Some e) ⊎ (e ≡ Refusal.NoMemory)) }
     ensures never_lower { segments.old ≤ segments.new }
 {
+    table.facts();
     let name = name.member();
-    if let Some(refusal) = receive_refusal(table, name, stream, force) {
+    if let Some(refusal) = receive_refusal(table, views, name, stream, mode) {
         return Err(refusal);
     }
-    start(alloc, table, freeing, name, stream, force, segments)
+    start(alloc, table, freeing, name, stream, mode, segments)
 }
 
 // Does what `begin` does, after its refusals were checked. NoMemory where memory is refused, or as `Table::rollback` says. It costs what `begin`
@@ -64,23 +65,29 @@ fn start(
     freeing: &Freeing,
     name: &Member,
     stream: &Stream,
-    force: bool,
+    mode: &Receiving,
     segments: &mut SegMeter,
 ) -> Result<WorkingCopy, Refusal>
     requires apart { AreDisjoint (union_of (world_of table.now)) freeing.now }
-    requires can { receive_refusal table.now name.now stream.now force ≡ None }
-    ensures ok { IfOk result (λ e. e.to ≡ begun table.now name.now.file_system stream.now force) }
+    requires can { (views : OpenViews) × (receive_refusal table.now views name.now stream.now mode.now ≡ None) }
+    ensures ok { IfOk result (λ e. e.to ≡ begun table.now name.now.file_system stream.now mode.now) }
     ensures lost { IfOk result (λ e. HasLost table.now freeing.now e.to e.freeing) }
     ensures err { IfErr result (λ e. e ≡ Refusal.NoMemory) }
     ensures never_lower { segments.old ≤ segments.new }
 {
-    if stream.source().is_none() {
-        return with_new(table, freeing, &name.file_system);
+    let name = &name.file_system;
+    let Some(source) = stream.source() else {
+        return match mode {
+            Receiving::Replace => replaced(alloc, table, freeing, name, segments),
+            _ => with_new(table, freeing, name),
+        };
+    };
+    match mode {
+        Receiving::Back => forced_back(alloc, table, freeing, name, segments),
+        Receiving::Past => back_past(alloc, table, freeing, name, source, segments),
+        Receiving::Origin(origin) => with_clone(table, freeing, name, origin.member()),
+        Receiving::Plain | Receiving::Replace => WorkingCopy::of(table, freeing),
     }
-    if force {
-        return forced_back(alloc, table, freeing, &name.file_system, segments);
-    }
-    WorkingCopy::of(table, freeing)
 }
 
 // The datasets with a new file system of this name. The refusals of its creation were checked before. NoMemory where memory is refused. It costs
@@ -97,34 +104,24 @@ fn with_new(table: &Table, freeing: &Freeing, name: &DsName) -> Result<WorkingCo
     Ok(edit)
 }
 
-// The datasets with this file system rolled back to its newest snapshot and without the bookmarks that are newer, or unchanged where it has no
-// snapshot. NoMemory where memory is refused, or as `Table::rollback` says. It costs what `begin` does.
-fn forced_back(
-    alloc: Global,
+// The datasets with a clone of this snapshot, which is there, under this name. The refusals of its creation were checked before. NoMemory where
+// memory is refused. It costs the number of file systems, the length of the name, the chunks of pieces that are to be freed, and the logarithm of
+// the number of the origin's snapshots.
+fn with_clone(
     table: &Table,
     freeing: &Freeing,
     name: &DsName,
-    segments: &mut SegMeter,
+    origin: &Member,
 ) -> Result<WorkingCopy, Refusal>
     requires apart { AreDisjoint (union_of (world_of table.now)) freeing.now }
-    ensures ok { IfOk result (λ e. e.to ≡ back table.now name.now) }
+    requires can { create_refusal table.now.file_systems name.now ≡ None }
+    requires there { IsSome (snap_named (world_of table.now) origin.now) }
+    ensures ok { IfOk result (λ e. e.to ≡ cloned table.now name.now origin.now) }
     ensures lost { IfOk result (λ e. HasLost table.now freeing.now e.to e.freeing) }
     ensures err { IfErr result (λ e. e ≡ Refusal.NoMemory) }
-    ensures never_lower { segments.old ≤ segments.new }
 {
-    let Some(newest) = newest_named(table, name) else {
-        return WorkingCopy::of(table, freeing);
-    };
+    table.facts();
     let mut edit = WorkingCopy::of(table, freeing)?;
-    edit.lose_live(alloc, name, segments)?;
-    remove_newer_bookmarks(alloc, &mut edit.to, name, newest.group())?;
+    edit.to.add_clone(name, origin)?;
     Ok(edit)
-}
-
-// The newest snapshot of the file system of this name, or none. It costs the logarithm of the number of file systems.
-fn newest_named<'a>(table: &'a Table, name: &DsName) -> Option<&'a Snapshot>
-    ensures { option_copied result ≡ newest_of (world_of table.now) name.now }
-{
-    let file_system = table.find(name)?;
-    newest_of(file_system)
 }

@@ -166,7 +166,7 @@ module _ (t : Datasets) (good : AreFileSystems t.file_systems t.group) (r : Entr
   there : IsIn r.1.snaps s
   there = subst (λ l. IsIn l s) (sym is) (in_middle older s newer)
 
-  rolled_at : (component : List ℕ) → find (λ (v : Snap). same_name v.name component) r.1.snaps ≡ Some s
+  pub rolled_at : (component : List ℕ) → find (λ (v : Snap). same_name v.name component) r.1.snaps ≡ Some s
       → rolled t (OfSnapshot (record { file_system = r.0; component = component })) ≡ record t { file_systems = insert t.file_systems r.0 (back_at r.1 s) }
   rolled_at component found = ap (λ ss. record t { file_systems = ss })
       (ap (λ x. (option_map_or (λ (p : FileSystem × Snap). after_rollback w (id_of p.1)) (option_and_then (λ f. option_map (λ (u : Snap). (f, u)) (option_and_then (λ (g : FileSystem). find (λ (v : Snap). same_name v.name component) g.snaps) x)) x) w).file_systems) at

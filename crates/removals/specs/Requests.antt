@@ -30,12 +30,17 @@ rolled t target = record t { file_systems = (rolled_back (world_of t) target).fi
 abbrev pub rollback_refusal : Datasets → Views → Target → Bool → Option Refusal
 rollback_refusal t views target later = first_of (back_row (world_of t) views target later)
 
+-- why its snapshots of a later group than this one can't go, if they can't (zfs-destroy(8); the view is profile)
+abbrev pub refusal_after : Datasets → FileSystem → ℕ → Views → Option Refusal
+refusal_after t f group views =
+    if list_any (is_held_after views group) f.snaps then Some Busy else if list_any (has_clone_and_is_later t group) f.snaps then Some HasClones else None
+
 -- why a file system of these datasets can't go back to its snapshot of this group, if it can't (zfs-rollback(8); the view is profile)
 abbrev pub refusal_at : Datasets → FileSystem → ℕ → Views → Bool → Option Refusal
 refusal_at t f group views later =
     if not later && (nat_lt group (newest_group (origin_group f.origin) f.snaps) || has_newer f.bookmarks group)
     then Some NotNewest
-    else if list_any (is_held_after views group) f.snaps then Some Busy else if list_any (has_clone_and_is_later t group) f.snaps then Some HasClones else None
+    else refusal_after t f group views
 
 -- the datasets after a destroy (zfs-destroy(8))
 abbrev pub destroyed : Datasets → Views → Target → Bool → Bool → Datasets

@@ -84,9 +84,9 @@ fn vacate(edit: &mut WorkingCopy, alloc: Global, name: &DsName) -> Result<(), Re
         .add_tree(&lost.tree, lost.after, u64::from(lost.count))
 }
 
-// Removes the snapshots of this file system, and empties it. It is as the edit has it, and none of its snapshots has a clone. NoMemory where
-// memory is refused; on error, discard the edit. It costs what `WorkingCopy::remove_newer` does.
-fn empty_one(
+/// Removes the snapshots of this file system, and empties it. It is as the edit has it, and none of its snapshots has a clone. NoMemory where
+/// memory is refused; on error, discard the edit. It costs what `WorkingCopy::remove_newer` does.
+pub fn empty_one(
     edit: &mut WorkingCopy,
     alloc: Global,
     file_system: &FileSystem,

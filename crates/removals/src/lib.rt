@@ -21,5 +21,6 @@ mod working_copy;
 pub use bookmark::remove_newer_bookmarks;
 pub use close::close_view;
 pub use destroying::destroy;
-pub use rolling::rollback;
+pub use emptied::empty_one;
+pub use rolling::{refusal_after, roll_back, rollback};
 pub use working_copy::WorkingCopy;

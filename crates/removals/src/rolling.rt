@@ -15,7 +15,7 @@ ghost use Rattle.world.specs.Sets.{AreDisjoint};
 ghost use Rattle.world.specs.Tables.{world_of};
 ghost use Rattle.removals.specs.Edits.{HasLost};
 ghost use Rattle.removals.specs.Needs.{has_clone_and_is_later};
-ghost use Rattle.removals.specs.Requests.{rolled, rollback_refusal, refusal_at};
+ghost use Rattle.removals.specs.Requests.{rolled, rollback_refusal, refusal_at, refusal_after};
 
 use crate::bookmark::remove_newer_bookmarks;
 use crate::cloned::any_later_has_clone;
@@ -91,7 +91,7 @@ fn has_newer(file_system: &FileSystem, group: Group) -> bool
 }
 
 // The refusal of the rollback of this file system of the table to its snapshot of this group, if any, as `rollback` says. It costs what
-// `has_newer`, `any_later_held` and `any_later_has_clone` do.
+// `has_newer` and `refusal_after` do.
 fn refusal_of(
     table: &Table,
     file_system: &FileSystem,
@@ -104,6 +104,20 @@ fn refusal_of(
     if !later && has_newer(file_system, group) {
         return Some(Refusal::NotNewest);
     }
+    refusal_after(table, file_system, group, views)
+}
+
+/// The refusal of a destroy of the snapshots that this file system of the table has of a later group, if any: Busy where one of them has a tag or
+/// one of these views, else HasClones where one has a clone (zfs-destroy(8); the view is profile). It costs the number of the file system's
+/// snapshots, and for each that is later that of the open views and the logarithm of the number of clones.
+pub fn refusal_after(
+    table: &Table,
+    file_system: &FileSystem,
+    group: Group,
+    views: &Views,
+) -> Option<Refusal>
+    ensures { result ≡ refusal_after table.now file_system.now.system group.0 views.now.opened }
+{
     if any_later_held(file_system, group, views) {
         return Some(Refusal::Busy);
     }
@@ -113,9 +127,9 @@ fn refusal_of(
     None
 }
 
-// Rolls this file system back to its snapshot of this name, which is of this group. No newer snapshot has a clone. NoMemory where memory is
-// refused; on error, discard the edit. It costs what `rollback` does.
-fn roll_back(
+/// Rolls this file system back to its snapshot of this name, which is of this group. It is as the edit has it, and no newer snapshot has a clone
+/// (zfs-rollback(8), -r). NoMemory where memory is refused; on error, discard the edit. It costs what `rollback` does.
+pub fn roll_back(
     edit: &mut WorkingCopy,
     alloc: Global,
     file_system: &FileSystem,

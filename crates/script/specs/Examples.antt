@@ -6,6 +6,7 @@ use Rattle.base.specs.declared.refusal.Refusal.TheVariants.{BadName, NoDataset, 
 use Rattle.base.specs.declared.name.target.Target.TheVariants.{FileSystem, Snapshot, Bookmark}
 use Rattle.model.specs.declared.request.Property.TheVariants.{Used, Available, Referenced, Written, UsedByDataset, UsedBySnapshots, UsedByChildren, UsedByRefReservation, Quota, RefQuota, Reservation, RefReservation, Guid, CreateTxg, Origin, Clones, UserRefs, DeferDestroy}
 use Rattle.model.specs.declared.limits.Limit.TheVariants as limits
+use Rattle.model.specs.declared.receiving.Receiving.TheVariants.{Plain, Back}
 use Rattle.model.specs.declared.request.PoolProperty.TheVariants.{Free, Freeing}
 use Rattle.model.specs.declared.request.Request.TheVariants.{Create, Write, Punch, FreeObject, Snapshot as TakeSnapshots, Read, Get, PoolGet, List as ListNames, Rollback, Destroy, Slice, Sync, Abandon, OpenView, CloseView, Clone, Promote, Hold, Release, Holds, Bookmark as MakeBookmark, WrittenSince, WouldFree, Set, Send, Receive}
 use Rattle.model.specs.declared.reply.Reply.TheVariants.{Done, Refused, Value as ValueIs, Group, Names, Count, Opened, Stream}
@@ -171,10 +172,10 @@ pub record WorkedLines : Type 0 where
   pub send_from_short : meaning (codes "send -i @s p/a@t") ≡ Faulty BadName
   pub receive :
       meaning (codes "receive p/b@s 5aF0")
-      ≡ Asks (Receive (record { file_system = codes "p/b"; component = codes "s" }) (90 ∷ 240 ∷ []) false)
+      ≡ Asks (Receive (record { file_system = codes "p/b"; component = codes "s" }) (90 ∷ 240 ∷ []) Plain)
   pub receive_by_force :
       meaning (codes "receive -F p/b@s 00")
-      ≡ Asks (Receive (record { file_system = codes "p/b"; component = codes "s" }) (0 ∷ []) true)
+      ≡ Asks (Receive (record { file_system = codes "p/b"; component = codes "s" }) (0 ∷ []) Back)
   pub receive_odd_digits : meaning (codes "receive p/b@s 5aF") ≡ Faulty BadLine
   pub receive_no_digits : meaning (codes "receive p/b@s 5g") ≡ Faulty BadLine
   pub receive_alone : meaning (codes "receive p/b@s") ≡ Faulty BadLine

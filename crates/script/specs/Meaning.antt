@@ -8,6 +8,7 @@ use Rattle.base.specs.declared.refusal.Refusal.TheVariants.{BadName, BadLine}
 use Rattle.base.specs.declared.name.member.Member.{Member}
 use Rattle.base.specs.declared.name.target.Target.{Target}
 use Rattle.base.specs.Reading.{name_of, snap_of, mark_of, tag_of, target_of}
+use Rattle.model.specs.declared.receiving.Receiving.TheVariants.{Plain, Back}
 use Rattle.model.specs.declared.request.Request.{Request}
 use Rattle.model.specs.declared.request.Request.TheVariants.{Create, Write, Punch, FreeObject, Snapshot, Read, Get, PoolGet, List as ListNames, Rollback, Destroy, Slice, Sync, Abandon, OpenView, CloseView, Clone, Promote, Hold, Release, Holds, Bookmark, WrittenSince, WouldFree, Set, Send, Receive}
 use Rattle.script.specs.Lines.{line_limit}
@@ -188,7 +189,7 @@ send_of operands =
 -- `SNAP HEX`: a receive (zfs-receive(8); that the line has the stream is profile)
 unfoldable pub received_of : Bool → List (List ℕ) → Meaning
 received_of force operands =
-    shaped (two_of operands) (λ w. shaped (bytes_of_word w.1) (λ bytes. named (snap_of w.0) (λ snapshot. Asks (Receive snapshot bytes force))))
+    shaped (two_of operands) (λ w. shaped (bytes_of_word w.1) (λ bytes. named (snap_of w.0) (λ snapshot. Asks (Receive snapshot bytes (if force then Back else Plain)))))
 
 -- `receive [-F] SNAP HEX` (zfs-receive(8))
 unfoldable pub receive_of : List (List ℕ) → Meaning

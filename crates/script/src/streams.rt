@@ -10,6 +10,7 @@ use base::name::{SnapName, Target};
 use base::refusal::Refusal;
 use base::text::Bytes;
 use hex::FromHexError;
+use model::receiving::Receiving;
 use model::request::Request;
 use std::alloc::Global;
 
@@ -75,10 +76,15 @@ fn received(alloc: Global, operands: Option<&[u8]>, force: bool) -> Result<Reque
     };
     let bytes = bytes_said(alloc, digits)?;
     let snapshot = SnapName::read(alloc, snapshot)?;
+    let mode = if force {
+        Receiving::Back
+    } else {
+        Receiving::Plain
+    };
     Ok(Request::Receive {
         snapshot,
         bytes,
-        force,
+        mode,
     })
 }
 

@@ -134,16 +134,25 @@ fn view_of<K: Opening, R: Wait>(
     session: &Session<K>,
     seat: &mut Seat<K>,
 ) -> Result<View<K>, Refusal> {
-    let name = SnapName::read(alloc, b"p@s")?;
-    let names = SnapNames::from(vec![in alloc; name]?);
-    let taken = Request::Snapshot {
-        names,
-        recursive: false,
-    };
+    let taken = snapshot(alloc)?;
     let receipt = session.call(alloc, rt, seat, taken)?;
     drop(receipt);
     let target = Target::read(alloc, b"p@s")?;
-    match session.open_view(alloc, rt, seat, target)? {
+    opened(session.open_view(alloc, rt, seat, target)?)
+}
+
+/// A snapshot of the root.
+fn snapshot(alloc: Global) -> Result<Request, Refusal> {
+    let name = SnapName::read(alloc, b"p@s")?;
+    Ok(Request::Snapshot {
+        names: SnapNames::from(vec![in alloc; name]?),
+        recursive: false,
+    })
+}
+
+/// The view, or NoView where the pool refused it.
+fn opened<K: Opening>(outcome: OpenedView<K>) -> Result<View<K>, Refusal> {
+    match outcome {
         OpenedView::Opened(view, receipt) => {
             drop(receipt);
             Ok(view)

@@ -44,14 +44,20 @@ pub fn applied(alloc: Global, mut pool: Pool, calls: u32) -> Result<u32, Refusal
 fn applied_to(alloc: Global, pool: &mut Pool, calls: u32) -> Result<u32, Refusal> {
     let mut done: u32 = 0;
     for number in 0..calls {
-        let request = write_of(alloc, number)?;
-        let mut reply = Reply::Done;
-        pool.apply(alloc, &request, &mut reply);
-        drop(request);
-        if is_done(&reply) {
+        if is_applied(alloc, pool, number)? {
             done = done.saturating_add(1);
         }
-        drop(reply);
     }
+    Ok(done)
+}
+
+/// Whether the pool has done the write with this number.
+fn is_applied(alloc: Global, pool: &mut Pool, number: u32) -> Result<bool, Refusal> {
+    let request = write_of(alloc, number)?;
+    let mut reply = Reply::Done;
+    pool.apply(alloc, &request, &mut reply);
+    drop(request);
+    let done = is_done(&reply);
+    drop(reply);
     Ok(done)
 }

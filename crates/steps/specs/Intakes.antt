@@ -1,5 +1,5 @@
 -- What a receive makes of a pool, by what the pool keeps.
-use Rattle.std.specs.Prelude.{◌≡◌, ◌⊎◌, ◌+◌, ℕ, Bool, false, List, [], ◌∷◌, None, Some, map}
+use Rattle.std.specs.Prelude.{◌≡◌, ◌⊎◌, ◌+◌, ℕ, false, List, [], ◌∷◌, None, Some, map}
 use Rattle.base.specs.declared.refusal.Refusal.{Refusal}
 use Rattle.base.specs.declared.refusal.Refusal.TheVariants.{BadStream, NoMemory}
 use Rattle.base.specs.Surveys.{dead_block}
@@ -10,6 +10,7 @@ use Rattle.datasets.specs.Snapshots.{with_snap_at}
 use Rattle.datasets.specs.Writes.{HasWritten}
 use Rattle.stream.specs.Records.{changes_of as changes_of_records}
 use Rattle.stream.specs.Spelling.{Sending, IsNoStream}
+use Rattle.model.specs.declared.receiving.Receiving.{Receiving}
 use Rattle.model.specs.declared.request.Request.TheVariants.{Receive}
 use Rattle.model.specs.declared.reply.Reply.TheVariants.{Done}
 use Rattle.model.specs.Edits.{with_now}
@@ -45,16 +46,17 @@ pub record IsPresent (s : State) (p : Present) : Type 0 where
   pub states : HasStates s p.allocator.now
   pub datasets : datasets_of s ≡ p.table.now
   pub freeing : s.now.freeing ≡ p.freeing.now
+  pub views : s.views ≡ p.views.now.opened
   pub synced : s.last.group ≡ p.synced.0
   pub size : s.size ≡ p.size
   pub unlimited : p.is_limited ≡ false → IsUnlimited s.now.file_systems
 
 -- in such a state, a receive of what was sent, which no row but that of the limits refuses, has begun with these datasets, and its records are
 -- these updates (zfs-receive(8))
-pub record IsUnderWay (s : State) (p : Present) (m : Member) (sent : Sending) (force : Bool) (edit : WorkingCopy) (us : List Update) : Type 0 where
+pub record IsUnderWay (s : State) (p : Present) (m : Member) (sent : Sending) (mode : Receiving) (edit : WorkingCopy) (us : List Update) : Type 0 where
   pub present : IsPresent s p
-  pub none : first_of (stream_row s.now m sent force) ≡ None
-  pub to : edit.to ≡ begun p.table.now m.file_system sent force
+  pub none : first_of (stream_row s.now s.views m sent mode) ≡ None
+  pub to : edit.to ≡ begun p.table.now m.file_system sent mode
   pub lost : HasLost p.table.now p.freeing.now edit.to edit.freeing
   pub ready : CanFinish edit.to m
   pub batch : IsBatch us
@@ -62,23 +64,23 @@ pub record IsUnderWay (s : State) (p : Present) (m : Member) (sent : Sending) (f
 
 -- what a receive of what was sent makes: its records are in force in the live map that it begins with, and that is kept as the snapshot
 -- (zfs-receive(8))
-pub record IsMadeOf (s : State) (m : Member) (force : Bool) (sent : Sending) (i : Intake) : Type 0 where
-  pub begun : IsPoolState (with_now s (before_receive s.now m.file_system sent force))
-  pub there : AreTakable (before_receive s.now m.file_system sent force).file_systems (m ∷ [])
+pub record IsMadeOf (s : State) (m : Member) (mode : Receiving) (sent : Sending) (i : Intake) : Type 0 where
+  pub begun : IsPoolState (with_now s (before_receive s.now m.file_system sent mode))
+  pub there : AreTakable (before_receive s.now m.file_system sent mode).file_systems (m ∷ [])
   pub written : Datasets
   pub states : List BlockState
-  pub change : HasWritten (datasets_of (with_now s (before_receive s.now m.file_system sent force))) written m.file_system (changes_of_records sent.records) s.last.group states i.done
+  pub change : HasWritten (datasets_of (with_now s (before_receive s.now m.file_system sent mode))) written m.file_system (changes_of_records sent.records) s.last.group states i.done
   pub kept : i.to ≡ with_snap_at (record written { group = written.group + 1 }) m.file_system m.component sent.target written.group
 
 -- the pool can put this in the place of what it keeps, from which it differs at one name alone, and then the receive is done (zfs-receive(8))
-pub record IsIntakeOf (s : State) (m : Member) (bytes : List ℕ) (force : Bool) (i : Intake) : Type 0 where
+pub record IsIntakeOf (s : State) (m : Member) (bytes : List ℕ) (mode : Receiving) (i : Intake) : Type 0 where
   pub sent : Sending
-  pub made : IsMadeOf s m force sent i
+  pub made : IsMadeOf s m mode sent i
   pub one : IsRecounted (world_of (datasets_of s)) (world_of i.to) m.file_system
   pub can : CanReceive s i.to i.freeing (map dead_block i.done.released.items) (map (λ n. n.0) i.done.taken.items)
   pub unlimited : StaysUnlimited s i.to
-  pub step : Step s (Receive m bytes force) Done (put_freeing s i.to i.freeing)
+  pub step : Step s (Receive m bytes mode) Done (put_freeing s i.to i.freeing)
 
 -- this is the first of the limits that are asked which doesn't hold (zfsprops(7): quota, refquota, reservation)
-abbrev pub BreaksLimit : State → Member → Sending → Bool → Refusal → Type 0
-BreaksLimit s m sent force why = first_of (limit_row (asked_by_receive s m sent force)) ≡ Some why
+abbrev pub BreaksLimit : State → Member → Sending → Receiving → Refusal → Type 0
+BreaksLimit s m sent mode why = first_of (limit_row (asked_by_receive s m sent mode)) ≡ Some why

@@ -1,10 +1,11 @@
 -- What a receive asks limits of, and what it puts in the place of a pool's datasets.
-use Rattle.std.specs.Prelude.{◌≡◌, ◌<◌, ◌≤◌, ◌⊎◌, ℕ, Bool, List}
+use Rattle.std.specs.Prelude.{◌≡◌, ◌<◌, ◌≤◌, ◌⊎◌, ℕ, List}
 use Rattle.base.specs.Map.{Block, BlockSet}
 use Rattle.base.specs.Surveys.{IsIn}
 use Rattle.zalloc.specs.declared.BlockState.TheVariants.{Free}
 use Rattle.base.specs.declared.name.member.Member.{Member}
 use Rattle.stream.specs.Spelling.{Sending}
+use Rattle.model.specs.declared.receiving.Receiving.{Receiving}
 use Rattle.model.specs.World.{reach_of}
 use Rattle.model.specs.State.{State, block_state}
 use Rattle.model.specs.Edits.{with_now}
@@ -17,8 +18,8 @@ use Rattle.steps.specs.Edits.{with_datasets, with_freeing}
 
 -- with all records in force, by new blocks whose numbers no block has, and the live map kept as the snapshot (zfs-receive(8); when limits are
 -- asked is profile)
-abbrev pub asked_by_receive : State → Member → Sending → Bool → State
-asked_by_receive s m sent force = with_now s (received s.now m sent force (fresh_number s))
+abbrev pub asked_by_receive : State → Member → Sending → Receiving → State
+asked_by_receive s m sent mode = with_now s (received s.now m sent mode (fresh_number s))
 
 -- the same state with these datasets, where this is to be freed (zpool-features(7): async_destroy)
 abbrev pub put_freeing : State → Datasets → BlockSet → State

@@ -1,7 +1,8 @@
 //! The check of a receive against the limits.
-ghost use Rattle.std.specs.Prelude.{◌≡◌, ◌≤◌, ◌⊎◌, Bool, true, None, IfErr, OnOk};
+ghost use Rattle.std.specs.Prelude.{◌≡◌, ◌≤◌, ◌⊎◌, true, None, IfErr, OnOk};
 ghost use Rattle.base.specs.declared.refusal.Refusal.{Refusal};
 ghost use Rattle.model.specs.Rule.{first_of};
+ghost use Rattle.model.specs.declared.receiving.Receiving.{Receiving};
 ghost use Rattle.model.specs.State.{State};
 ghost use Rattle.model.specs.requests.Change.{limit_row};
 ghost use Rattle.stream.specs.Spelling.{Sending};
@@ -30,9 +31,9 @@ pub(crate) fn ask_limits(
     updates: &[Update],
     meter: &mut Meter,
 ) -> Result<(), Refusal>
-    requires { (s : State) × (sent : Sending) × (force : Bool) × IsUnderWay s present name.now sent force edit.now updates.now }
-    ensures ok { (s : State) (sent : Sending) (force : Bool) → IsUnderWay s present.entry name.now sent force edit.now updates.now → present.entry.is_limited ≡ true → OnOk result (first_of (limit_row (asked_by_receive s name.now sent force)) ≡ None) }
-    ensures err { (s : State) (sent : Sending) (force : Bool) → IsUnderWay s present.entry name.now sent force edit.now updates.now → IfErr result (λ e. BreaksLimit s name.now sent force e ⊎ (e ≡ Refusal.NoMemory)) }
+    requires { (s : State) × (sent : Sending) × (mode : Receiving) × IsUnderWay s present name.now sent mode edit.now updates.now }
+    ensures ok { (s : State) (sent : Sending) (mode : Receiving) → IsUnderWay s present.entry name.now sent mode edit.now updates.now → present.entry.is_limited ≡ true → OnOk result (first_of (limit_row (asked_by_receive s name.now sent mode)) ≡ None) }
+    ensures err { (s : State) (sent : Sending) (mode : Receiving) → IsUnderWay s present.entry name.now sent mode edit.now updates.now → IfErr result (λ e. BreaksLimit s name.now sent mode e ⊎ (e ≡ Refusal.NoMemory)) }
     ensures never_lower { meter.old ≤ meter.new }
 {
     if !present.is_limited {

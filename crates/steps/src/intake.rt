@@ -15,11 +15,13 @@ use base::number::Group;
 use base::refusal::Refusal;
 use datasets::Table;
 use destroyer::Freeing;
+use model::receiving::Receiving;
 use receives::{begin, finish, updates_of};
 use removals::WorkingCopy;
 use std::alloc::Global;
 use stream::{Stream, StreamFault, read_stream};
 use tree::Changed;
+use views::Views;
 use zalloc::Allocator;
 
 /// The parts of a pool that a receive reads.
@@ -27,6 +29,7 @@ use zalloc::Allocator;
 pub struct Present<'a> {
     pub table: &'a Table,
     pub freeing: &'a Freeing,
+    pub views: &'a Views,
     /// The group that the last sync opened.
     pub synced: Group,
     pub allocator: &'a Allocator,
@@ -56,13 +59,13 @@ pub fn intake_of(
     present: Present,
     name: &SnapName,
     bytes: &[u8],
-    force: bool,
+    mode: &Receiving,
     meter: &mut Meter,
     segments: &mut SegMeter,
 ) -> Result<Intake, Refusal>
     requires { (s : State) × IsPresent s present }
-    ensures ok { (s : State) → IsPresent s present.entry → IfOk result (IsIntakeOf s name.now bytes.now force) }
-    ensures err { (s : State) → IsPresent s present.entry → IfErr result (λ e. Step s (Request.Receive name.now bytes.now force) (Reply.Refused e) s) }
+    ensures ok { (s : State) → IsPresent s present.entry → IfOk result (IsIntakeOf s name.now bytes.now mode.now) }
+    ensures err { (s : State) → IsPresent s present.entry → IfErr result (λ e. Step s (Request.Receive name.now bytes.now mode.now) (Reply.Refused e) s) }
     ensures never_lower { meter.old ≤ meter.new }
     ensures segments_never_lower { segments.old ≤ segments.new }
 {
@@ -71,9 +74,10 @@ pub fn intake_of(
         alloc,
         present.table,
         present.freeing,
+        present.views,
         name,
         &stream,
-        force,
+        mode,
         segments,
     )?;
     let updates = updates_of(alloc, stream.records())?;

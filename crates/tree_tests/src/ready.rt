@@ -27,7 +27,7 @@ pub fn segment_meter() -> SegMeter
 }
 
 /// The first leaf that an update covers and the one past its last, where it writes or punches a leaf, or punches an object.
-pub(crate) fn extent(update: &Update) -> Option<(u32, u32)>
+fn extent(update: &Update) -> Option<(u32, u32)>
     ensures first { IfSome result (λ e. e.0 ≡ first_of update.now) }
     ensures past { IfSome result (λ e. e.1 ≡ past_of update.now) }
     ensures of_tree { IfSome result (λ e. IsOfTree update.now) }

@@ -4,3 +4,4 @@ pub mod WithoutSnaps
 pub mod Rollbacks
 pub mod Families
 pub mod Slices
+pub mod Emptied

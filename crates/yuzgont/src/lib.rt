@@ -40,6 +40,7 @@ pub use image::Image;
 pub use model::entry::{Entry, KeptReply};
 pub use model::limits::{Limit, Limits};
 pub use model::names::Names;
+pub use model::receiving::Receiving;
 pub use model::reply::{Reply, Value};
 pub use model::request::{PoolProperty, Property, Request};
 pub use model::sight::Sight;

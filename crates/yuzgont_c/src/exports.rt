@@ -1,71 +1,36 @@
-//! The calls that C makes. Each takes the pool out of the handle, makes the call of [`Host`] that it is named after, and puts the pool back.
-ghost use Rattle.std.specs.Prelude.{◌≡◌, Some, None, IfOk, IfErr};
-ghost use Rattle.yuzgont_c.specs.Answers.{Codes};
-ghost use Rattle.yuzgont_c.specs.Asking.{asked_create, asked_clone, asked_destroy, asked_promote, asked_rollback, asked_snapshot, asked_bookmark, asked_hold, asked_release, asked_holds};
-ghost use Rattle.yuzgont_c.specs.Asking.{asked_punch, asked_free_object, asked_written_since, asked_would_free, asked_receive, property_at, pool_property_at, limit_at};
+//! The calls that C makes, which `include/yuzgont.h` declares. Each is the call of [`YuzPool`] that it names, with the number of its answer
+//! ([`Answer::code`](c_api::Answer)), and has that call's contract.
+ghost use Rattle.std.specs.Prelude.{◌≡◌, Some, None};
+ghost use Rattle.c_api.specs.Answers.{Codes};
+ghost use Rattle.c_api.specs.Asking.{asked_create, asked_clone, asked_destroy, asked_promote, asked_rollback, asked_snapshot, asked_bookmark, asked_hold, asked_release, asked_holds};
+ghost use Rattle.c_api.specs.Asking.{asked_punch, asked_free_object, asked_written_since, asked_would_free, mode_at, property_at, pool_property_at, limit_at};
 ghost use Rattle.script.specs.Words.{amount_of_bytes};
-ghost use Rattle.yuzgont_c.specs.Calls.{Calls, Creates, IsFresh, CanBe, CreateRefused, Does, Writes, ReadsBlock, TellsNumber, GetsOf, PoolGetsOf, SetsOf, Syncs, Slices, OpensView, Lists, NamesPiece, Sends, Answers, RepliesPiece, StreamsPiece, Forgotten};
+ghost use Rattle.c_api.specs.Calls.{Calls, Creates, Does, Writes, ReadsBlock, TellsNumber, GetsOf, PoolGetsOf, SetsOf, ReceivesOf, Syncs, Slices, OpensView, Lists, NamesPiece, Sends, Answers, RepliesPiece, StreamsPiece, Forgotten};
 ghost use Rattle.model.specs.declared.request.Request.TheVariants.{Abandon, CloseView, List};
 
-use crate::answer::Answer;
-use crate::handle::YuzPool;
-use crate::host::Host;
-use base::refusal::Refusal;
+use c_api::YuzPool;
 use pool::MOST_BLOCKS;
 use std::alloc::Global;
 
-// Takes the pool out of a handle, makes a call of it and puts it back. The result is the number of the call's answer, or of NoPool where the
-// handle has no pool.
-macro_rules! on_host {
-    ($alloc:ident, $pool:ident, |$host:ident| $call:expr) => {{
-        let Some(mut $host) = $pool.take($alloc) else {
-            return Answer::NoPool.code();
-        };
-        let answer = $call;
-        $pool.put($host);
-        answer.code()
-    }};
-}
-
-/// Makes a pool in a handle that has none, as `Host::create`. HasPool where the handle has one.
+/// Makes a pool in a handle that has none, as `YuzPool::create`: HasPool where the handle has one; BadName for id 0, else TooMany for no block or
+/// more than `MOST_BLOCKS`, else NoMemory. The handle owns the pool until `yuzgont_free`.
 #[unsafe(no_mangle)]
 pub extern "C" fn yuzgont_create(alloc: Global, pool: &mut YuzPool, id: u32, blocks: u32) -> i32
     ensures { Codes result (λ answer. Creates MOST_BLOCKS id blocks pool.old.slot.host answer pool.new.slot.host) }
 {
-    if let Some(host) = pool.take(alloc) {
-        pool.put(host);
-        return Answer::HasPool.code();
-    }
-    match created(alloc, id, blocks) {
-        Ok(host) => {
-            pool.put(host);
-            Answer::Done.code()
-        }
-        Err(refusal) => Answer::Refused(refusal).code(),
-    }
+    pool.create(alloc, id, blocks).code()
 }
 
-// A new host, boxed.
-fn created(alloc: Global, id: u32, blocks: u32) -> Result<Box<Host>, Refusal>
-    ensures can { IfOk result (λ _. CanBe MOST_BLOCKS id blocks) }
-    ensures fresh { IfOk result (λ host. IsFresh id blocks host.value) }
-    ensures err { IfErr result (λ why. CreateRefused MOST_BLOCKS id blocks why) }
-{
-    let host = Host::create(alloc, id, blocks)?;
-    Ok(Box::new(alloc, host)?)
-}
-
-/// Frees a pool with all its memory. A handle that has none is unchanged.
+/// Frees the pool of a handle with all its memory, as `YuzPool::free`. A handle that has none is unchanged.
 #[unsafe(no_mangle)]
 pub extern "C" fn yuzgont_free(alloc: Global, pool: &mut YuzPool)
     ensures { pool.new.slot.host ≡ None }
 {
-    if let Some(host) = pool.take(alloc) {
-        drop(host);
-    }
+    pool.free(alloc)
 }
 
-/// Answers a script line, as `Host::line`.
+/// Answers a script line, as `YuzPool::line`: the refusal's number, or 0, and the length of the reply, which is kept until the next line. NoMemory
+/// where memory was refused; the pool is unchanged then, and so is `refusal`.
 #[unsafe(no_mangle)]
 pub extern "C" fn yuzgont_line(
     alloc: Global,
@@ -76,10 +41,10 @@ pub extern "C" fn yuzgont_line(
 ) -> i32
     ensures { Codes result (λ answer. Calls (Answers line.now refusal.old refusal.new size.new) pool.old.slot.host answer pool.new.slot.host) }
 {
-    on_host!(alloc, pool, |host| host.line(line, refusal, size))
+    pool.line(alloc, line, refusal, size).code()
 }
 
-/// Copies bytes of the last reply, as `Host::reply_piece`, and writes their number to `count`.
+/// Copies bytes of the last reply, from index `from` on, as `YuzPool::reply_piece`, and writes their number to `count`.
 #[unsafe(no_mangle)]
 pub extern "C" fn yuzgont_reply(
     alloc: Global,
@@ -90,13 +55,10 @@ pub extern "C" fn yuzgont_reply(
 ) -> i32
     ensures { Codes result (λ answer. Calls (RepliesPiece from buffer.old buffer.new count.new) pool.old.slot.host answer pool.new.slot.host) }
 {
-    on_host!(alloc, pool, |host| {
-        *count = host.reply_piece(from, buffer);
-        Answer::Done
-    })
+    pool.reply_piece(alloc, from, buffer, count).code()
 }
 
-/// Writes a block, as `Host::write`.
+/// Writes a block, as `YuzPool::write`. BadLength where there aren't 512 bytes.
 #[unsafe(no_mangle)]
 pub extern "C" fn yuzgont_write(
     alloc: Global,
@@ -108,10 +70,10 @@ pub extern "C" fn yuzgont_write(
 ) -> i32
     ensures { Codes result (λ answer. Calls (Writes name.now object block bytes.now) pool.old.slot.host answer pool.new.slot.host) }
 {
-    on_host!(alloc, pool, |host| host.write(name, object, block, bytes))
+    pool.write(alloc, name, object, block, bytes).code()
 }
 
-/// Reads a block, as `Host::read`.
+/// Reads a block into a buffer, as `YuzPool::read`, and writes to `is_hole` whether it is a hole. BadLength where the buffer isn't 512 bytes.
 #[unsafe(no_mangle)]
 pub extern "C" fn yuzgont_read(
     alloc: Global,
@@ -124,14 +86,11 @@ pub extern "C" fn yuzgont_read(
 ) -> i32
     ensures { Codes result (λ answer. Calls (ReadsBlock name.now object block buffer.old is_hole.old buffer.new is_hole.new) pool.old.slot.host answer pool.new.slot.host) }
 {
-    on_host!(
-        alloc,
-        pool,
-        |host| host.read(name, object, block, buffer, is_hole)
-    )
+    pool.read(alloc, name, object, block, buffer, is_hole)
+        .code()
 }
 
-/// Punches a block, as `Host::punch`.
+/// Punches a block, which makes it a hole, as `YuzPool::punch`.
 #[unsafe(no_mangle)]
 pub extern "C" fn yuzgont_punch(
     alloc: Global,
@@ -142,10 +101,10 @@ pub extern "C" fn yuzgont_punch(
 ) -> i32
     ensures { Codes result (λ answer. Calls (Does (asked_punch name.now object block)) pool.old.slot.host answer pool.new.slot.host) }
 {
-    on_host!(alloc, pool, |host| host.punch(name, object, block))
+    pool.punch(alloc, name, object, block).code()
 }
 
-/// Takes a snapshot, as `Host::snapshot`.
+/// Takes a snapshot, as `YuzPool::snapshot`.
 #[unsafe(no_mangle)]
 pub extern "C" fn yuzgont_snapshot(
     alloc: Global,
@@ -155,10 +114,11 @@ pub extern "C" fn yuzgont_snapshot(
 ) -> i32
     ensures { Codes result (λ answer. Calls (Does (asked_snapshot name.now recursive)) pool.old.slot.host answer pool.new.slot.host) }
 {
-    on_host!(alloc, pool, |host| host.snapshot(name, recursive))
+    pool.snapshot(alloc, name, recursive).code()
 }
 
-/// Gets a property of a dataset, as `Host::get`.
+/// Writes a property of a dataset to `value`, as `YuzPool::get`. NoProperty where none has this number, NotApplicable where the dataset doesn't
+/// have the property.
 #[unsafe(no_mangle)]
 pub extern "C" fn yuzgont_get(
     alloc: Global,
@@ -169,18 +129,18 @@ pub extern "C" fn yuzgont_get(
 ) -> i32
     ensures { Codes result (λ answer. Calls (GetsOf name.now (property_at property) value.old value.new) pool.old.slot.host answer pool.new.slot.host) }
 {
-    on_host!(alloc, pool, |host| host.get(name, property, value))
+    pool.get(alloc, name, property, value).code()
 }
 
-/// Syncs the pool, as `Host::sync`.
+/// Syncs the pool, as `YuzPool::sync`, and writes to `group` the group that is open then.
 #[unsafe(no_mangle)]
 pub extern "C" fn yuzgont_sync(alloc: Global, pool: &mut YuzPool, group: &mut u64) -> i32
     ensures { Codes result (λ answer. Calls (Syncs group.old group.new) pool.old.slot.host answer pool.new.slot.host) }
 {
-    on_host!(alloc, pool, |host| host.sync(group))
+    pool.sync(alloc, group).code()
 }
 
-/// Frees blocks of what was destroyed, as `Host::slice`.
+/// Frees up to `count` blocks of what was destroyed, as `YuzPool::slice`, and writes to `taken` how many it freed.
 #[unsafe(no_mangle)]
 pub extern "C" fn yuzgont_slice(
     alloc: Global,
@@ -190,18 +150,18 @@ pub extern "C" fn yuzgont_slice(
 ) -> i32
     ensures { Codes result (λ answer. Calls (Slices count taken.old taken.new) pool.old.slot.host answer pool.new.slot.host) }
 {
-    on_host!(alloc, pool, |host| host.slice(count, taken))
+    pool.slice(alloc, count, taken).code()
 }
 
-/// Goes back to the last sync, as `Host::abandon`.
+/// Goes back to the last sync, as `YuzPool::abandon`.
 #[unsafe(no_mangle)]
 pub extern "C" fn yuzgont_abandon(alloc: Global, pool: &mut YuzPool) -> i32
     ensures { Codes result (λ answer. Calls (Does (Some Abandon)) pool.old.slot.host answer pool.new.slot.host) }
 {
-    on_host!(alloc, pool, |host| host.abandon())
+    pool.abandon(alloc).code()
 }
 
-/// Makes the stream of a snapshot, as `Host::send`.
+/// Makes the stream of a snapshot, as `YuzPool::send`, which is kept until the next send. `size` is the length in bytes of the stream that is kept.
 #[unsafe(no_mangle)]
 pub extern "C" fn yuzgont_send(
     alloc: Global,
@@ -212,10 +172,10 @@ pub extern "C" fn yuzgont_send(
 ) -> i32
     ensures { Codes result (λ answer. Calls (Sends name.now from.now size.new) pool.old.slot.host answer pool.new.slot.host) }
 {
-    on_host!(alloc, pool, |host| host.send(name, from, size))
+    pool.send(alloc, name, from, size).code()
 }
 
-/// Copies bytes of the last stream, as `Host::stream_piece`, and writes their number to `count`.
+/// Copies bytes of the last stream, from index `from` on, as `YuzPool::stream_piece`, and writes their number to `count`.
 #[unsafe(no_mangle)]
 pub extern "C" fn yuzgont_stream(
     alloc: Global,
@@ -226,43 +186,41 @@ pub extern "C" fn yuzgont_stream(
 ) -> i32
     ensures { Codes result (λ answer. Calls (StreamsPiece from buffer.old buffer.new count.new) pool.old.slot.host answer pool.new.slot.host) }
 {
-    on_host!(alloc, pool, |host| {
-        *count = host.stream_piece(from, buffer);
-        Answer::Done
-    })
+    pool.stream_piece(alloc, from, buffer, count).code()
 }
 
-/// Receives a stream as a snapshot, as `Host::receive`.
+/// Receives a stream as a snapshot, as `YuzPool::receive`.
 #[unsafe(no_mangle)]
 pub extern "C" fn yuzgont_receive(
     alloc: Global,
     pool: &mut YuzPool,
     name: &[u8],
     bytes: &[u8],
-    force: bool,
+    mode: u32,
+    origin: &[u8],
 ) -> i32
-    ensures { Codes result (λ answer. Calls (Does (asked_receive name.now bytes.now force)) pool.old.slot.host answer pool.new.slot.host) }
+    ensures { Codes result (λ answer. Calls (ReceivesOf name.now bytes.now (mode_at mode origin.now)) pool.old.slot.host answer pool.new.slot.host) }
 {
-    on_host!(alloc, pool, |host| host.receive(name, bytes, force))
+    pool.receive(alloc, name, bytes, mode, origin).code()
 }
 
-/// Frees the last reply, stream and list, as `Host::forget`.
+/// Frees the last reply, stream and list, as `YuzPool::forget`.
 #[unsafe(no_mangle)]
 pub extern "C" fn yuzgont_forget(alloc: Global, pool: &mut YuzPool) -> i32
     ensures { Codes result (λ answer. Calls Forgotten pool.old.slot.host answer pool.new.slot.host) }
 {
-    on_host!(alloc, pool, |host| host.forget())
+    pool.forget(alloc).code()
 }
 
-/// Creates a file system, as `Host::create_file_system`.
+/// Creates a file system, as `YuzPool::create_file_system`.
 #[unsafe(no_mangle)]
 pub extern "C" fn yuzgont_create_file_system(alloc: Global, pool: &mut YuzPool, name: &[u8]) -> i32
     ensures { Codes result (λ answer. Calls (Does (asked_create name.now)) pool.old.slot.host answer pool.new.slot.host) }
 {
-    on_host!(alloc, pool, |host| host.create_file_system(name))
+    pool.create_file_system(alloc, name).code()
 }
 
-/// Makes a clone of a snapshot, as `Host::clone_snapshot`.
+/// Makes a clone of a snapshot, as `YuzPool::clone_snapshot`.
 #[unsafe(no_mangle)]
 pub extern "C" fn yuzgont_clone(
     alloc: Global,
@@ -272,10 +230,10 @@ pub extern "C" fn yuzgont_clone(
 ) -> i32
     ensures { Codes result (λ answer. Calls (Does (asked_clone snapshot.now name.now)) pool.old.slot.host answer pool.new.slot.host) }
 {
-    on_host!(alloc, pool, |host| host.clone_snapshot(snapshot, name))
+    pool.clone_snapshot(alloc, snapshot, name).code()
 }
 
-/// Destroys a dataset or a bookmark, as `Host::destroy`.
+/// Destroys a dataset or a bookmark, as `YuzPool::destroy`.
 #[unsafe(no_mangle)]
 pub extern "C" fn yuzgont_destroy(
     alloc: Global,
@@ -286,18 +244,18 @@ pub extern "C" fn yuzgont_destroy(
 ) -> i32
     ensures { Codes result (λ answer. Calls (Does (asked_destroy name.now recursive defer)) pool.old.slot.host answer pool.new.slot.host) }
 {
-    on_host!(alloc, pool, |host| host.destroy(name, recursive, defer))
+    pool.destroy(alloc, name, recursive, defer).code()
 }
 
-/// Promotes a clone, as `Host::promote`.
+/// Promotes a clone, as `YuzPool::promote`.
 #[unsafe(no_mangle)]
 pub extern "C" fn yuzgont_promote(alloc: Global, pool: &mut YuzPool, name: &[u8]) -> i32
     ensures { Codes result (λ answer. Calls (Does (asked_promote name.now)) pool.old.slot.host answer pool.new.slot.host) }
 {
-    on_host!(alloc, pool, |host| host.promote(name))
+    pool.promote(alloc, name).code()
 }
 
-/// Rolls back to a snapshot, as `Host::rollback`.
+/// Rolls back to a snapshot, as `YuzPool::rollback`.
 #[unsafe(no_mangle)]
 pub extern "C" fn yuzgont_rollback(
     alloc: Global,
@@ -307,10 +265,10 @@ pub extern "C" fn yuzgont_rollback(
 ) -> i32
     ensures { Codes result (λ answer. Calls (Does (asked_rollback snapshot.now later)) pool.old.slot.host answer pool.new.slot.host) }
 {
-    on_host!(alloc, pool, |host| host.rollback(snapshot, later))
+    pool.rollback(alloc, snapshot, later).code()
 }
 
-/// Makes a bookmark of a snapshot, as `Host::bookmark`.
+/// Makes a bookmark of a snapshot, as `YuzPool::bookmark`.
 #[unsafe(no_mangle)]
 pub extern "C" fn yuzgont_bookmark(
     alloc: Global,
@@ -320,10 +278,10 @@ pub extern "C" fn yuzgont_bookmark(
 ) -> i32
     ensures { Codes result (λ answer. Calls (Does (asked_bookmark snapshot.now mark.now)) pool.old.slot.host answer pool.new.slot.host) }
 {
-    on_host!(alloc, pool, |host| host.bookmark(snapshot, mark))
+    pool.bookmark(alloc, snapshot, mark).code()
 }
 
-/// Adds a hold to a snapshot, as `Host::hold`.
+/// Adds a hold to a snapshot, as `YuzPool::hold`.
 #[unsafe(no_mangle)]
 pub extern "C" fn yuzgont_hold(
     alloc: Global,
@@ -333,10 +291,10 @@ pub extern "C" fn yuzgont_hold(
 ) -> i32
     ensures { Codes result (λ answer. Calls (Does (asked_hold tag.now snapshot.now)) pool.old.slot.host answer pool.new.slot.host) }
 {
-    on_host!(alloc, pool, |host| host.hold(tag, snapshot))
+    pool.hold(alloc, tag, snapshot).code()
 }
 
-/// Releases a hold on a snapshot, as `Host::release`.
+/// Releases a hold on a snapshot, as `YuzPool::release`.
 #[unsafe(no_mangle)]
 pub extern "C" fn yuzgont_release(
     alloc: Global,
@@ -346,10 +304,11 @@ pub extern "C" fn yuzgont_release(
 ) -> i32
     ensures { Codes result (λ answer. Calls (Does (asked_release tag.now snapshot.now)) pool.old.slot.host answer pool.new.slot.host) }
 {
-    on_host!(alloc, pool, |host| host.release(tag, snapshot))
+    pool.release(alloc, tag, snapshot).code()
 }
 
-/// Sets or removes a limit of a file system, as `Host::set`.
+/// Sets a limit of a file system to an amount in bytes, or removes it where the amount is 0, as `YuzPool::set`. NoProperty where no limit has this
+/// number, BadAmount where the amount isn't a multiple of 512 or is more than 2^49.
 #[unsafe(no_mangle)]
 pub extern "C" fn yuzgont_set(
     alloc: Global,
@@ -360,10 +319,10 @@ pub extern "C" fn yuzgont_set(
 ) -> i32
     ensures { Codes result (λ answer. Calls (SetsOf name.now (limit_at limit) (amount_of_bytes amount)) pool.old.slot.host answer pool.new.slot.host) }
 {
-    on_host!(alloc, pool, |host| host.set(name, limit, amount))
+    pool.set(alloc, name, limit, amount).code()
 }
 
-/// Frees an object, as `Host::free_object`.
+/// Frees an object, as `YuzPool::free_object`.
 #[unsafe(no_mangle)]
 pub extern "C" fn yuzgont_free_object(
     alloc: Global,
@@ -373,10 +332,10 @@ pub extern "C" fn yuzgont_free_object(
 ) -> i32
     ensures { Codes result (λ answer. Calls (Does (asked_free_object name.now object)) pool.old.slot.host answer pool.new.slot.host) }
 {
-    on_host!(alloc, pool, |host| host.free_object(name, object))
+    pool.free_object(alloc, name, object).code()
 }
 
-/// Opens a view of a snapshot, as `Host::open_view`.
+/// Opens a view of a snapshot, as `YuzPool::open_view`, and writes its number to `view`.
 #[unsafe(no_mangle)]
 pub extern "C" fn yuzgont_open_view(
     alloc: Global,
@@ -386,18 +345,18 @@ pub extern "C" fn yuzgont_open_view(
 ) -> i32
     ensures { Codes result (λ answer. Calls (OpensView snapshot.now view.old view.new) pool.old.slot.host answer pool.new.slot.host) }
 {
-    on_host!(alloc, pool, |host| host.open_view(snapshot, view))
+    pool.open_view(alloc, snapshot, view).code()
 }
 
-/// Closes a view, as `Host::close_view`.
+/// Closes a view, as `YuzPool::close_view`.
 #[unsafe(no_mangle)]
 pub extern "C" fn yuzgont_close_view(alloc: Global, pool: &mut YuzPool, view: u64) -> i32
     ensures { Codes result (λ answer. Calls (Does (Some (CloseView view))) pool.old.slot.host answer pool.new.slot.host) }
 {
-    on_host!(alloc, pool, |host| host.close_view(view))
+    pool.close_view(alloc, view).code()
 }
 
-/// Tells how many bytes were written since a snapshot, as `Host::written_since`.
+/// Writes to `value` how many bytes were written since a snapshot, as `YuzPool::written_since`.
 #[unsafe(no_mangle)]
 pub extern "C" fn yuzgont_written_since(
     alloc: Global,
@@ -408,10 +367,10 @@ pub extern "C" fn yuzgont_written_since(
 ) -> i32
     ensures { Codes result (λ answer. Calls (TellsNumber (asked_written_since name.now since.now) value.old value.new) pool.old.slot.host answer pool.new.slot.host) }
 {
-    on_host!(alloc, pool, |host| host.written_since(name, since, value))
+    pool.written_since(alloc, name, since, value).code()
 }
 
-/// Tells how many bytes destroying a range of snapshots would free, as `Host::would_free`.
+/// Writes to `value` how many bytes destroying a range of snapshots would free, as `YuzPool::would_free`.
 #[unsafe(no_mangle)]
 pub extern "C" fn yuzgont_would_free(
     alloc: Global,
@@ -423,14 +382,10 @@ pub extern "C" fn yuzgont_would_free(
 ) -> i32
     ensures { Codes result (λ answer. Calls (TellsNumber (asked_would_free name.now first.now last.now) value.old value.new) pool.old.slot.host answer pool.new.slot.host) }
 {
-    on_host!(
-        alloc,
-        pool,
-        |host| host.would_free(name, first, last, value)
-    )
+    pool.would_free(alloc, name, first, last, value).code()
 }
 
-/// Gets a property of the pool, as `Host::pool_get`.
+/// Writes a property of the pool to `value`, as `YuzPool::pool_get`. NoProperty where none has this number.
 #[unsafe(no_mangle)]
 pub extern "C" fn yuzgont_pool_get(
     alloc: Global,
@@ -440,18 +395,18 @@ pub extern "C" fn yuzgont_pool_get(
 ) -> i32
     ensures { Codes result (λ answer. Calls (PoolGetsOf (pool_property_at property) value.old value.new) pool.old.slot.host answer pool.new.slot.host) }
 {
-    on_host!(alloc, pool, |host| host.pool_get(property, value))
+    pool.pool_get(alloc, property, value).code()
 }
 
-/// Lists all datasets and bookmarks, as `Host::list`.
+/// Lists all datasets and bookmarks, as `YuzPool::list`. The names are kept until the next list, and `size` is how many are kept.
 #[unsafe(no_mangle)]
 pub extern "C" fn yuzgont_list(alloc: Global, pool: &mut YuzPool, size: &mut usize) -> i32
     ensures { Codes result (λ answer. Calls (Lists (Some List) size.new) pool.old.slot.host answer pool.new.slot.host) }
 {
-    on_host!(alloc, pool, |host| host.list(size))
+    pool.list(alloc, size).code()
 }
 
-/// Lists the tags of a snapshot's holds, as `Host::holds`.
+/// Lists the tags of a snapshot's holds, as `YuzPool::holds`, and keeps them as `yuzgont_list` does.
 #[unsafe(no_mangle)]
 pub extern "C" fn yuzgont_holds(
     alloc: Global,
@@ -461,10 +416,11 @@ pub extern "C" fn yuzgont_holds(
 ) -> i32
     ensures { Codes result (λ answer. Calls (Lists (asked_holds snapshot.now) size.new) pool.old.slot.host answer pool.new.slot.host) }
 {
-    on_host!(alloc, pool, |host| host.holds(snapshot, size))
+    pool.holds(alloc, snapshot, size).code()
 }
 
-/// Copies a name of the last list, as `Host::name_piece`.
+/// Copies the name at an index of the last list, as much of it as fits, as `YuzPool::name_piece`, and writes its whole length to `size`. NoEntry
+/// where the index is past the last name.
 #[unsafe(no_mangle)]
 pub extern "C" fn yuzgont_name(
     alloc: Global,
@@ -475,5 +431,5 @@ pub extern "C" fn yuzgont_name(
 ) -> i32
     ensures { Codes result (λ answer. Calls (NamesPiece index buffer.old buffer.new size.old size.new) pool.old.slot.host answer pool.new.slot.host) }
 {
-    on_host!(alloc, pool, |host| host.name_piece(index, buffer, size))
+    pool.name_piece(alloc, index, buffer, size).code()
 }

@@ -6,7 +6,7 @@ import unittest
 from pathlib import Path
 
 import yuzgont
-from yuzgont import BLOCK_SIZE, Pool
+from yuzgont import BLOCK_SIZE, Pool, Receiving
 
 HOSTS = Path(__file__).resolve().parents[2]
 # The first block of a file system: its leaf and five levels of indirect blocks.
@@ -224,7 +224,7 @@ class Streams(Case):
         self.backup.write("p/copy", 0, 1, b"own")
         with self.assertRaises(yuzgont.Modified):
             self.backup.receive("p/copy@tuesday", younger)
-        self.backup.receive("p/copy@tuesday", younger, force=True)
+        self.backup.receive("p/copy@tuesday", younger, Receiving.BACK)
         self.assertIsNone(self.backup.read("p/copy", 0, 1))
         self.refused(yuzgont.NotAncestor, self.pool.send, "p@monday", "p@tuesday")
 

@@ -13,4 +13,4 @@ A call that is refused raises an exception of the refusal's name, with its numbe
 from .errors import *  # noqa: F403
 from .errors import REFUSALS, Misuse, Refusal, YuzgontError  # noqa: F401
 from .lineage import Lineage  # noqa: F401
-from .pool import BLOCK_SIZE, Pool, View, random_id  # noqa: F401
+from .pool import BLOCK_SIZE, Pool, Receiving, View, random_id  # noqa: F401

@@ -34,7 +34,7 @@ _PARAMETERS = {
     "abandon": (),
     "send": (*_BYTES, *_BYTES, _SIZE),
     "stream": (c_size_t, *_BUFFER, _SIZE),
-    "receive": (*_BYTES, *_BYTES, c_bool),
+    "receive": (*_BYTES, *_BYTES, c_uint32, *_BYTES),
     "forget": (),
 }
 

@@ -4,6 +4,7 @@ import re
 import secrets
 import threading
 from ctypes import byref, c_bool, c_size_t, c_uint32, c_uint64, create_string_buffer
+from enum import IntEnum
 
 from .errors import BadKey, BadName, PoolMissing, check, error_of
 from .library import Handle, library
@@ -18,6 +19,22 @@ _PROPERTIES = (
 _LIMITS = ("quota", "refquota", "reservation", "refreservation")
 _ERROR = re.compile(r"error (\d+) \w+\n")
 _WORD = re.compile(r"[!-~]+")
+
+
+class Receiving(IntEnum):
+    """The mode of a receive (docs/RECEIVE.md).
+
+    `PLAIN`: a full stream makes a new file system. An incremental one goes into a file system that hasn't changed since its newest snapshot.
+    `BACK`: the file system is rolled back to its newest snapshot first. `PAST`: it is rolled back to the stream's source; newer snapshots and
+    bookmarks are destroyed. `ORIGIN`: an incremental stream makes a clone of its source. `REPLACE`: a full stream takes the place of a file
+    system, whose contents, snapshots and bookmarks are destroyed.
+    """
+
+    PLAIN = 0
+    BACK = 1
+    PAST = 2
+    ORIGIN = 3
+    REPLACE = 4
 
 
 def random_id():
@@ -263,10 +280,10 @@ class Pool:
             finally:
                 self._do("forget")
 
-    def receive(self, snapshot, stream, force=False):
-        """Receives a whole stream as a snapshot; with `force` the file system goes back to its newest snapshot first."""
-        name, stream = snapshot.encode(), bytes(stream)
-        self._do("receive", name, len(name), stream, len(stream), bool(force), what=f"receive {snapshot}")
+    def receive(self, snapshot, stream, mode=Receiving.PLAIN, origin=""):
+        """Receives a whole stream as a snapshot, in a mode; `origin` names the snapshot of which `Receiving.ORIGIN` makes a clone."""
+        name, stream, start = snapshot.encode(), bytes(stream), origin.encode()
+        self._do("receive", name, len(name), stream, len(stream), int(mode), start, len(start), what=f"receive {snapshot}")
 
 
 class View:

@@ -12,7 +12,7 @@ mod requests;
 mod sys;
 
 pub use error::Error;
-pub use requests::{Entry, Kind, Limit, PoolProperty};
+pub use requests::{Entry, Kind, Limit, PoolProperty, Receiving};
 
 use std::collections::hash_map::RandomState;
 use std::hash::{BuildHasher, Hasher};
@@ -165,9 +165,10 @@ impl Pool {
         Ok(Stream { pool: self, at: 0, size })
     }
 
-    /// Receives what will be written, as a snapshot of this name; with `force` the file system goes back to its newest snapshot first.
-    pub fn receive<'a>(&'a mut self, name: &'a str, force: bool) -> Receiver<'a> {
-        Receiver { pool: self, name, force, bytes: Vec::new() }
+    /// Receives what will be written, as a snapshot of this name, in a mode; `true` stands for [`Receiving::Back`], and `false` for
+    /// [`Receiving::Plain`].
+    pub fn receive<'a>(&'a mut self, name: &'a str, mode: impl Into<Receiving<'a>>) -> Receiver<'a> {
+        Receiver { pool: self, name, mode: mode.into(), bytes: Vec::new() }
     }
 }
 
@@ -221,16 +222,26 @@ impl Drop for Stream<'_> {
 pub struct Receiver<'a> {
     pool: &'a mut Pool,
     name: &'a str,
-    force: bool,
+    mode: Receiving<'a>,
     bytes: Vec<u8>,
 }
 
 impl Receiver<'_> {
-    /// Receives what was written: [`Error::BadStream`] where that isn't one whole stream.
+    /// Receives what was written: [`Error::BadStream`] where that isn't one whole stream, or not one for the mode.
     pub fn finish(self) -> Result<(), Error> {
-        let (name, bytes) = (self.name, &self.bytes);
+        let (name, bytes, origin) = (self.name, &self.bytes, self.mode.origin());
+        let mode = self.mode.number();
         Error::check(unsafe {
-            sys::yuzgont_receive(&mut self.pool.handle, name.as_ptr(), name.len(), bytes.as_ptr(), bytes.len(), self.force)
+            sys::yuzgont_receive(
+                &mut self.pool.handle,
+                name.as_ptr(),
+                name.len(),
+                bytes.as_ptr(),
+                bytes.len(),
+                mode,
+                origin.as_ptr(),
+                origin.len(),
+            )
         })
     }
 }

@@ -24,6 +24,51 @@ pub enum PoolProperty {
     Group = 5,
 }
 
+/// The mode of a receive ([`Pool::receive`], docs/RECEIVE.md).
+#[derive(Clone, Copy, PartialEq, Eq, Debug)]
+pub enum Receiving<'a> {
+    /// A full stream makes a new file system. An incremental one goes into a file system that hasn't changed since its newest snapshot.
+    Plain,
+    /// The file system is rolled back to its newest snapshot first.
+    Back,
+    /// The file system is rolled back to the stream's source. Its newer snapshots and bookmarks are destroyed.
+    Past,
+    /// An incremental stream from the snapshot of this name makes a new file system, which is a clone of it.
+    Origin(&'a str),
+    /// A full stream takes the place of a file system that is there. Its contents, snapshots and bookmarks are destroyed.
+    Replace,
+}
+
+impl<'a> Receiving<'a> {
+    pub(crate) fn number(self) -> u32 {
+        match self {
+            Receiving::Plain => 0,
+            Receiving::Back => 1,
+            Receiving::Past => 2,
+            Receiving::Origin(_) => 3,
+            Receiving::Replace => 4,
+        }
+    }
+
+    pub(crate) fn origin(self) -> &'a str {
+        match self {
+            Receiving::Origin(name) => name,
+            _ => "",
+        }
+    }
+}
+
+/// `true` is [`Receiving::Back`], and `false` is [`Receiving::Plain`].
+impl From<bool> for Receiving<'_> {
+    fn from(force: bool) -> Self {
+        if force {
+            Receiving::Back
+        } else {
+            Receiving::Plain
+        }
+    }
+}
+
 /// What a name of a list is of.
 #[derive(Clone, Copy, PartialEq, Eq, Debug)]
 pub enum Kind {

@@ -30,7 +30,7 @@ extern "C" {
     pub fn yuzgont_abandon(pool: *mut Handle) -> i32;
     pub fn yuzgont_send(pool: *mut Handle, name: *const u8, name_length: usize, from: *const u8, from_length: usize, size: *mut usize) -> i32;
     pub fn yuzgont_stream(pool: *mut Handle, from: usize, buffer: *mut u8, length: usize, count: *mut usize) -> i32;
-    pub fn yuzgont_receive(pool: *mut Handle, name: *const u8, name_length: usize, bytes: *const u8, length: usize, force: bool) -> i32;
+    pub fn yuzgont_receive(pool: *mut Handle, name: *const u8, name_length: usize, bytes: *const u8, length: usize, mode: u32, origin: *const u8, origin_length: usize) -> i32;
     pub fn yuzgont_forget(pool: *mut Handle) -> i32;
     pub fn yuzgont_create_file_system(pool: *mut Handle, name: *const u8, name_length: usize) -> i32;
     pub fn yuzgont_clone(pool: *mut Handle, snapshot: *const u8, snapshot_length: usize, name: *const u8, name_length: usize) -> i32;

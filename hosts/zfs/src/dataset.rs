@@ -90,6 +90,8 @@ pub struct Bookmark {
     pub guid: u64,
     pub creation: i64,
     pub create_txg: u64,
+    /// The bytes that its snapshot referenced.
+    pub referenced: u64,
 }
 
 impl FileSystem {

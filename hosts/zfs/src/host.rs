@@ -171,7 +171,7 @@ impl Host {
             let above = &name[..place];
             if !self.tree.has(above) {
                 self.make_file_system(above, Kind::FileSystem, clock)?;
-                self.mount(above);
+                let _ = self.mount_new(above);
             }
         }
         Ok(())
@@ -223,8 +223,14 @@ impl Host {
         let snapshot = from.snapshot().ok_or(Refusal::NotSnapshot)?;
         let path = &self.tree.get(base).ok_or(Refusal::NoDataset)?.path;
         self.layer.order(&format!("bookmark {} {path}#{component}", from.path))?;
-        let bookmark =
-            Bookmark { name: name.to_owned(), component, guid: snapshot.guid, creation: snapshot.creation, create_txg: snapshot.create_txg };
+        let bookmark = Bookmark {
+            name: name.to_owned(),
+            component,
+            guid: snapshot.guid,
+            creation: snapshot.creation,
+            create_txg: snapshot.create_txg,
+            referenced: self.layer.get(&from.path, Property::Referenced)?,
+        };
         self.tree.edit(base).ok_or(Refusal::NoDataset)?.bookmarks.push(Rc::new(bookmark));
         Ok(())
     }
@@ -243,27 +249,6 @@ impl Host {
         self.tree.named(&origin)
     }
 
-    /// As a mount does where there is a mountpoint: nothing is mounted, but `mounted` says yes.
-    pub fn mount(&mut self, name: &str) {
-        let is_mountable = self.is_mountable(name);
-        if let Some(file_system) = self.tree.edit(name) {
-            file_system.is_mounted = is_mountable && file_system.kind == Kind::FileSystem;
-            file_system.mounted_at = None;
-        }
-    }
-
-    pub fn mount_all(&mut self) {
-        let names: Vec<String> = self.tree.iter().map(|(name, _)| name.clone()).collect();
-        names.iter().for_each(|name| self.mount(name));
-        self.settle_names();
-    }
-
-    pub fn unmount_all(&mut self) {
-        let names: Vec<String> = self.tree.iter().map(|(name, _)| name.clone()).collect();
-        names.iter().for_each(|name| self.unmount(name));
-        self.settle_names();
-    }
-
     /// Keeps what has changed here alone: the layer has nothing to sync.
     pub fn settle_names(&mut self) {
         self.settled = self.tree.clone();
@@ -276,11 +261,6 @@ impl Host {
             self.settle_names();
             self.name = new.to_owned();
         }
-    }
-
-    fn is_mountable(&self, name: &str) -> bool {
-        let can = self.tree.get(name).and_then(|it| it.local.get("canmount").cloned());
-        can.as_deref().unwrap_or("on") == "on" && !matches!(self.mount_point(name).0.as_str(), "none" | "legacy")
     }
 }
 

@@ -2,7 +2,7 @@
 
 use std::fmt;
 use std::io::{self, Read, Write};
-use yuzgont::{Error, Pool, Property};
+use yuzgont::{Error, Pool, Property, Receiving};
 
 macro_rules! refusals {
     ($($name:ident $number:literal;)*) => {
@@ -151,9 +151,9 @@ impl Layer {
         Ok(bytes)
     }
 
-    /// Receives a whole stream as a snapshot.
-    pub fn receive(&mut self, name: &str, force: bool, bytes: &[u8]) -> Result<(), Refusal> {
-        let mut receiver = self.pool.receive(name, force);
+    /// Receives a whole stream as a snapshot, in a mode.
+    pub fn receive(&mut self, name: &str, mode: Receiving<'_>, bytes: &[u8]) -> Result<(), Refusal> {
+        let mut receiver = self.pool.receive(name, mode);
         receiver.write_all(bytes).map_err(|_| Refusal::NoMemory)?;
         Ok(receiver.finish()?)
     }

@@ -11,6 +11,7 @@ mod dataset;
 mod failure;
 mod host;
 mod layer;
+mod mounting;
 mod moving;
 mod name;
 mod options;

@@ -8,6 +8,7 @@ use crate::name;
 use crate::property::Native;
 use crate::stream::respell::with_source;
 use std::rc::Rc;
+use yuzgont::Receiving;
 
 impl Host {
     /// Moves a file system with all below it. It needs room for both at once.
@@ -97,14 +98,14 @@ impl Host {
         let Some(origin) = before.filter(|before| before.contains('@')) else {
             let source = before.map(|before| format!("{old}@{before}"));
             let bytes = self.layer.stream(&from, source.as_deref(), 0)?;
-            return Ok(self.layer.receive(&to, false, &bytes)?);
+            return Ok(self.layer.receive(&to, Receiving::Plain, &bytes)?);
         };
         let bytes = self.layer.stream(&from, Some(origin), 0)?;
         let now = format!("{new}@{}", self.tree.next_component());
         self.layer.order(&format!("snapshot {now}"))?;
         let guid = self.layer.get(&now, yuzgont::Property::Guid)?;
         let bytes = with_source(&bytes, guid)?;
-        self.layer.receive(&to, false, &bytes)?;
+        self.layer.receive(&to, Receiving::Plain, &bytes)?;
         Ok(self.layer.order(&format!("destroy {now}"))?)
     }
 

@@ -94,7 +94,8 @@ impl Table {
     }
 
     fn widths(&self) -> Vec<usize> {
-        let widest = |place: usize| self.rows.iter().map(|row| row[place].chars().count()).max().unwrap_or(0);
+        // A row may end before the last column.
+        let widest = |place: usize| self.rows.iter().filter_map(|row| row.get(place)).map(|cell| cell.chars().count()).max().unwrap_or(0);
         self.columns.iter().enumerate().map(|(place, column)| widest(place).max(column.header.len()).max(column.least)).collect()
     }
 

@@ -110,6 +110,9 @@ impl Host {
         if native.is_limit() {
             return Some(self.limit(dataset, native));
         }
+        if let (Part::Bookmark(bookmark), Native::Referenced | Native::LogicalReferenced) = (&dataset.part, native) {
+            return Some(Value::plain(bookmark.referenced.to_string()));
+        }
         if let Some(number) = number(native) {
             return Some(self.layer.get(&dataset.path, number).map_or_else(|_| Value::none(), |it| Value::plain(it.to_string())));
         }
@@ -218,20 +221,31 @@ impl Host {
         }
     }
 
-    /// A mountpoint that is inherited has the rest of the name behind it.
+    /// A mountpoint that is inherited has the rest of the name behind it. The pool's alternate root stands before it.
     pub fn mount_point(&self, name: &str) -> (String, Source) {
-        mount_point_in(&self.tree, name)
+        let (place, source) = mount_point_in(&self.tree, name);
+        (self.rooted(place), source)
+    }
+
+    fn rooted(&self, place: String) -> String {
+        let root = self.facts.properties.get("altroot").map_or("", |root| root.trim_end_matches('/'));
+        if root.is_empty() || !place.starts_with('/') { place } else { format!("{root}{}", place.trim_end_matches('/')) }
     }
 
     /// The file systems that are mounted, and where.
     pub fn mounted(&self) -> Vec<(String, String)> {
         let names = self.tree.iter().map(|(name, _)| name);
-        names.filter_map(|name| mounted_at(&self.tree, name).map(|place| (name.clone(), place))).collect()
+        names.filter_map(|name| self.mounted_at(&self.tree, name).map(|place| (name.clone(), place))).collect()
     }
 
     /// Where a file system was mounted at the last sync.
     pub fn settled_place(&self, name: &str) -> Option<String> {
-        mounted_at(self.settled(), name)
+        self.mounted_at(self.settled(), name)
+    }
+
+    fn mounted_at(&self, tree: &Tree, name: &str) -> Option<String> {
+        let file_system = tree.get(name).filter(|it| it.is_mounted)?;
+        Some(file_system.mounted_at.clone().unwrap_or_else(|| self.rooted(mount_point_in(tree, name).0)))
     }
 
     fn written_since(&mut self, dataset: &Dataset, since: &str) -> Value {
@@ -275,11 +289,6 @@ impl Host {
     }
 }
 
-fn mounted_at(tree: &Tree, name: &str) -> Option<String> {
-    let file_system = tree.get(name).filter(|it| it.is_mounted)?;
-    Some(file_system.mounted_at.clone().unwrap_or_else(|| mount_point_in(tree, name).0))
-}
-
 fn mount_point_in(tree: &Tree, name: &str) -> (String, Source) {
     let mut at = name;
     loop {
@@ -317,7 +326,7 @@ fn users(values: &Values) -> impl Iterator<Item = String> + '_ {
     values.keys().filter(|name| name.contains(':')).cloned()
 }
 
-fn own(local: &Values, received: &Values, hidden: &BTreeSet<String>, property: &str) -> Option<Value> {
+pub fn own(local: &Values, received: &Values, hidden: &BTreeSet<String>, property: &str) -> Option<Value> {
     let found = |values: &Values, source| values.get(property).map(|text| Value { text: text.clone(), source });
     found(local, Source::Local).or_else(|| found(received, Source::Received).filter(|_| !hidden.contains(property)))
 }

@@ -111,8 +111,18 @@ pub fn check_new(settings: &[Setting], kind: Kind) -> Result<Vec<Checked>, Reaso
     Ok(checked)
 }
 
+impl Checked {
+    pub fn property(&self) -> Property {
+        match self {
+            Checked::User(name, _) => Property::User(name.clone()),
+            Checked::Native(native, _) => Property::Native(*native),
+            Checked::Account(name, _) => Property::Account(name.clone()),
+        }
+    }
+}
+
 impl Host {
-    /// Sets what was checked.
+    /// Sets what was checked. What that mounts and unmounts is the caller's (`settle_mounts`).
     pub fn set(&mut self, name: &str, checked: &Checked) -> Result<(), Reason> {
         match checked {
             Checked::User(property, value) | Checked::Account(property, value) => self.keep(name, property, value),
@@ -145,22 +155,6 @@ impl Host {
         match native {
             _ if native.is_limit() => self.set_limit(name, native, value),
             Native::VolSize => self.set_volume_size(name, value),
-            Native::CanMount => {
-                self.keep(name, native.name(), value)?;
-                self.can_mount_changed(name, value);
-                Ok(())
-            }
-            Native::MountPoint => {
-                let was_off = matches!(self.mount_point(name).0.as_str(), "none" | "legacy");
-                check_mount_folder(name, value)?;
-                self.keep(name, native.name(), value)?;
-                self.mount_point_changed(name, was_off);
-                Ok(())
-            }
-            Native::ShareNfs | Native::ShareSmb if value != "off" && self.mount_point(name).0 == "legacy" => {
-                let text = format!("cannot share '{name}': legacy mountpoint\nproperty may be set but unable to reshare filesystem");
-                Err(Reason::Text(text))
-            }
             Native::Version => {
                 let now = self.tree.get(name).and_then(|it| it.local.get("version").cloned()).unwrap_or_else(|| "5".into());
                 if value < now.as_str() {
@@ -226,36 +220,10 @@ impl Host {
         self.keep(name, "volsize", value)
     }
 
-    fn can_mount_changed(&mut self, name: &str, value: &str) {
-        match value {
-            "off" => self.unmount(name),
-            "on" => self.mount(name),
-            _ => {}
-        }
-    }
-
-    /// A file system whose mountpoint was none is mounted where it gets one; those below that inherit it follow.
-    pub fn mount_point_changed(&mut self, name: &str, was_off: bool) {
-        for below in self.tree.with_below(name) {
-            let is_mounted = self.tree.get(&below).is_some_and(|it| it.is_mounted);
-            if is_mounted || was_off {
-                self.mount(&below);
-            }
-        }
-    }
-
-    pub fn unmount(&mut self, name: &str) {
-        if let Some(file_system) = self.tree.edit(name) {
-            file_system.is_mounted = false;
-            file_system.mounted_at = None;
-        }
-    }
-
     /// Takes away the dataset's own value, so that it is inherited; with `to_received` what was received counts again.
     pub fn inherit(&mut self, name: &str, property: &Property, to_received: bool) -> Result<(), Reason> {
         let dataset = self.tree.find(name).ok_or(Reason::NoDataset)?;
         let key = property.to_string();
-        let was_off = matches!(self.mount_point(name).0.as_str(), "none" | "legacy");
         match (&dataset.part, property) {
             (Part::Whole, Property::Native(native)) if native.is_limit() => {
                 let received = dataset.base.received.get(&key).filter(|_| to_received).cloned();
@@ -272,9 +240,6 @@ impl Host {
                 let it = self.tree.edit_snapshot(name).ok_or(Reason::NoDataset)?;
                 inherited(&mut it.local, &it.received, &mut it.hidden, key, to_received);
             }
-        }
-        if *property == Property::Native(Native::MountPoint) {
-            self.mount_point_changed(name, was_off);
         }
         Ok(())
     }
@@ -293,17 +258,6 @@ fn inherited(local: &mut Values, received: &Values, hidden: &mut BTreeSet<String
     } else if received.contains_key(&property) {
         hidden.insert(property);
     }
-}
-
-/// A mountpoint that is there is a folder.
-fn check_mount_folder(name: &str, value: &str) -> Result<(), Reason> {
-    let is_file = value.starts_with('/') && std::path::Path::new(value).is_file();
-    if is_file {
-        let text = format!("cannot mount '{name}': failed to create mountpoint: Not a directory\n\
-             property may be set but unable to remount filesystem");
-        return Err(Reason::Text(text));
-    }
-    Ok(())
 }
 
 /// Whether a kind of dataset has a property at all.

@@ -1,8 +1,9 @@
 /* A preload for OpenZFS's own programs zfs and zpool: a /dev/zfs that answers.
  *
- * It has the datasets of the file $OPENZFS_HAS, a line each: name, type, origin, holds, guid, parted by tabs, as `zfs list -H -t all -o
- * name,type,origin,userrefs,guid` writes them. Each change is refused with the number $OPENZFS_ERRNO, as a kernel would: each name of a request of
- * several, or with $OPENZFS_WHOLE the request as a whole. So the programs say what OpenZFS says.
+ * It has the datasets of the file $OPENZFS_HAS, a line each: name, type, origin, holds, guid, mountpoint, canmount, sharenfs, sharesmb, parted by
+ * tabs, as `zfs list -H -t all -o name,type,origin,userrefs,guid,mountpoint,canmount,sharenfs,sharesmb` writes them. Each change is refused with the
+ * number $OPENZFS_ERRNO, as a kernel would: each name of a request of several, or with $OPENZFS_WHOLE the request as a whole. So the programs say
+ * what OpenZFS says. With 0 no change is refused, and the four properties are set; each mount is refused with $OPENZFS_MOUNT, where that is there.
  * The layout of a request is OpenZFS 2.1's `zfs_cmd_t` (include/sys/zfs_ioctl.h), the numbers are those of include/sys/fs/zfs.h.
  */
 #define _GNU_SOURCE
@@ -30,6 +31,8 @@ extern int nvlist_add_uint64_array(nvlist_t *, const char *, uint64_t *, unsigne
 extern int nvlist_pack(nvlist_t *, char **, size_t *, int, int);
 extern int nvlist_unpack(char *, size_t, nvlist_t **, int);
 extern int nvlist_lookup_nvlist(nvlist_t *, const char *, nvlist_t **);
+extern int nvlist_lookup_string(nvlist_t *, const char *, char **);
+extern int nvlist_lookup_uint64(nvlist_t *, const char *, uint64_t *);
 extern nvpair_t *nvlist_next_nvpair(nvlist_t *, nvpair_t *);
 extern char *nvpair_name(nvpair_t *);
 
@@ -57,10 +60,15 @@ enum {
     LOG_HISTORY = 0x5a3f, BOOKMARK = 0x5a43, GET_BOOKMARKS = 0x5a44, DESTROY_BOOKMARKS = 0x5a45,
 };
 
+enum { MOUNTPOINT, SHARENFS, SHARESMB, WORDS };
+static const char *words[WORDS] = {"mountpoint", "sharenfs", "sharesmb"};
+
 typedef struct {
     char *name, *origin;
     int volume, holds;
     uint64_t guid;
+    char *word[WORDS]; /* of a file system; NULL where it isn't told */
+    uint64_t canmount; /* off, on, noauto */
 } dataset_t;
 
 static dataset_t has[8192];
@@ -72,9 +80,18 @@ static void load(void) {
     for (count = 0; file && count < 8192 && fgets(line, sizeof line, file);) {
         char *rest = line;
         char *name = strsep(&rest, "\t\n"), *type = strsep(&rest, "\t\n"), *origin = strsep(&rest, "\t\n"), *holds = strsep(&rest, "\t\n");
-        char *guid = strsep(&rest, "\t\n");
-        if (name && *name && type && origin && holds && guid)
-            has[count++] = (dataset_t){strdup(name), strdup(origin), !strcmp(type, "volume"), atoi(holds), strtoull(guid, NULL, 10)};
+        char *guid = strsep(&rest, "\t\n"), *mountpoint = strsep(&rest, "\t\n"), *canmount = strsep(&rest, "\t\n");
+        char *sharenfs = strsep(&rest, "\t\n"), *sharesmb = strsep(&rest, "\t\n");
+        if (!name || !*name || !type || !origin || !holds || !guid)
+            continue;
+        has[count] = (dataset_t){strdup(name), strdup(origin), !strcmp(type, "volume"), atoi(holds), strtoull(guid, NULL, 10)};
+        if (!strcmp(type, "filesystem") && sharesmb) {
+            has[count].word[MOUNTPOINT] = strdup(mountpoint);
+            has[count].word[SHARENFS] = strdup(sharenfs);
+            has[count].word[SHARESMB] = strdup(sharesmb);
+            has[count].canmount = strcmp(canmount, "off") ? strcmp(canmount, "on") ? 2 : 1 : 0;
+        }
+        count++;
     }
     if (file)
         fclose(file);
@@ -106,12 +123,14 @@ static void number(nvlist_t *to, const char *key, uint64_t value) {
     nvlist_add_nvlist(to, key, entry);
 }
 
-static void word(nvlist_t *to, const char *key, const char *value) {
+static void word_from(nvlist_t *to, const char *key, const char *value, const char *source) {
     nvlist_t *entry = list();
     nvlist_add_string(entry, "value", value);
-    nvlist_add_string(entry, "source", "");
+    nvlist_add_string(entry, "source", source);
     nvlist_add_nvlist(to, key, entry);
 }
+
+static void word(nvlist_t *to, const char *key, const char *value) { word_from(to, key, value, ""); }
 
 static void of_pool(nvlist_t *to, const char *key, uint64_t value) {
     nvlist_t *entry = list();
@@ -177,6 +196,10 @@ static nvlist_t *properties(int at) {
         number(made, "volsize", 150 << 20);
         number(made, "volblocksize", 8192);
     }
+    for (int i = 0; has[at].word[MOUNTPOINT] && i < WORDS; i++) /* each as its own, so that it isn't put together again */
+        word_from(made, words[i], has[at].word[i], has[at].name);
+    if (has[at].word[MOUNTPOINT])
+        number(made, "canmount", has[at].canmount);
     if (strcmp(has[at].origin, "-"))
         word(made, "origin", has[at].origin);
     if (strchr(has[at].name, '@')) {
@@ -264,6 +287,20 @@ static int refuse_promote(request_t *request, int number) {
     return refuse(number);
 }
 
+/* Sets those of the properties that are told of a file system. */
+static int set(request_t *request, int at) {
+    nvlist_t *asked = NULL;
+    if (at < 0 || nvlist_unpack((char *)(uintptr_t)request->source, request->source_size, &asked, 0))
+        return refuse(ENOENT);
+    for (int i = 0; i < WORDS; i++) {
+        char *value;
+        if (!nvlist_lookup_string(asked, words[i], &value))
+            has[at].word[i] = strdup(value);
+    }
+    nvlist_lookup_uint64(asked, "canmount", &has[at].canmount);
+    return 0;
+}
+
 static int answer(unsigned long what, request_t *request) {
     const char *text = getenv("OPENZFS_ERRNO");
     int number = text ? atoi(text) : EIO, at;
@@ -325,7 +362,9 @@ static int answer(unsigned long what, request_t *request) {
         if (number)
             return refuse_promote(request, number);
         break;
-    case SET_PROPERTY: case SNAPSHOT: case DESTROY_SNAPS: case BOOKMARK: case DESTROY_BOOKMARKS:
+    case SET_PROPERTY:
+        return number ? refuse_each(request, what, number) : set(request, at);
+    case SNAPSHOT: case DESTROY_SNAPS: case BOOKMARK: case DESTROY_BOOKMARKS:
         return refuse_each(request, what, number);
     }
     if (number)
@@ -361,6 +400,12 @@ OPEN(open64)
     }
 STAT(stat, stat)
 STAT(stat64, stat64)
+
+int mount(const char *source, const char *target, const char *type, unsigned long flags, const void *options) {
+    const char *number = getenv("OPENZFS_MOUNT");
+    (void)source, (void)target, (void)type, (void)flags, (void)options;
+    return number ? refuse(atoi(number)) : 0;
+}
 
 int access(const char *path, int how) {
     int (*real)(const char *, int) = dlsym(RTLD_NEXT, "access");

@@ -17,8 +17,8 @@ import argparse, collections, concurrent.futures, difflib, errno, os, pty, re, s
 
 NUMBERS = [errno.EIO, errno.EEXIST, errno.EBUSY, errno.ENOENT, errno.EINVAL, errno.ENOSPC, errno.EDQUOT, errno.ESRCH, errno.EXDEV, errno.ENOTSUP,
            errno.ENODEV, errno.ETXTBSY, errno.ENAMETOOLONG, errno.EROFS, errno.E2BIG, errno.EPERM, errno.ERANGE, errno.EAGAIN, errno.ENOTEMPTY, 0]
-# A kernel refuses a request of several names as a whole, or names each.
-WAYS = [(number, whole) for number in NUMBERS for whole in (False, True)]
+# A kernel refuses a request of several names as a whole, or names each; or it refuses the mount that comes after a change.
+WAYS = [(number, how) for number in NUMBERS for how in ('each', 'whole')] + [(errno.ENOTDIR, 'mount')]
 
 
 def plain(text):
@@ -65,13 +65,15 @@ class OpenZfs:
 
     def ask(self, call, way):
         """The status and the text."""
-        number, whole = way
+        number, how = way
         words, there, terminals, posix, stream = call
-        env = {'PATH': os.environ['PATH'], 'LC_ALL': 'C', 'LD_LIBRARY_PATH': self.libraries, 'LD_PRELOAD': self.preload, 'OPENZFS_ERRNO': str(number)}
+        env = {'PATH': os.environ['PATH'], 'LC_ALL': 'C', 'LD_LIBRARY_PATH': self.libraries, 'LD_PRELOAD': self.preload, 'OPENZFS_ERRNO': str(0 if how == 'mount' else number)}
         if posix:
             env['POSIXLY_CORRECT'] = '1'
-        if whole:
+        if how == 'whole':
             env['OPENZFS_WHOLE'] = '1'
+        if how == 'mount':
+            env['OPENZFS_MOUNT'] = str(number)
         if words[1:2] == ('send',):
             env['OPENZFS_HOLDS'] = '1'
         ours = theirs = None
@@ -100,7 +102,7 @@ class OpenZfs:
         first = self.ask(call, WAYS[0])
         if first == (status, text):
             return None
-        if self.ask(call, (errno.EEXIST, False)) == first:  # so no kernel was asked
+        if self.ask(call, (errno.EEXIST, 'each')) == first:  # so no kernel was asked
             return first
         return None if any(self.ask(call, way) == (status, text) for way in WAYS[1:]) else first
 

@@ -155,6 +155,132 @@ fn a_stream_makes_the_same_file_system_elsewhere() {
     }
 }
 
+/// As `zfs_receive_one` of libzfs 2.1.11 and `dmu_recv_begin_check` of its kernel module have it.
+#[test]
+fn a_snapshot_that_is_there_is_passed_over_by_its_guid() {
+    let world = World::with_pool();
+    world.pool("back");
+    world.run("zfs create tank/a
+        zfs snapshot tank/a@1
+        zfs yuz-write tank/a 0 0 1 61
+        zfs snapshot tank/a@2
+        zfs snapshot tank/a@3");
+    let steps = world.stream(&["-I", "@1", "tank/a@3"]);
+    let step = world.stream(&["-i", "@1", "tank/a@2"]);
+    for (stream, target) in [(&world.stream(&["tank/a@1"]), "back/a"), (&steps, "back/a")] {
+        assert_eq!(world.receive(stream, &[target]).status, 0);
+    }
+    let before = world.state();
+    for words in [["-v", "back/a@1"], ["-vF", "back/a@3"]] {
+        let said = world.receive(&step, &words);
+        let told = format!("receiving incremental stream of tank/a@2 into {0}\nsnap {0} already exists; ignoring\nreceived 0B stream in 1 seconds (0B/sec)\n", words[1]);
+        assert_eq!((said.status, said.out, said.err), (0, told, String::new()));
+    }
+    let said = world.receive(&steps, &["-v", "back/a"]);
+    assert_eq!((said.status, said.out.matches("already exists; ignoring").count()), (0, 2), "{said:?}");
+    assert_eq!(world.state(), before);
+    let others = world.receive(&world.stream(&["-i", "@2", "tank/a@3"]), &["-n", "back/a@1"]);
+    assert_eq!(others, Said { status: 0, out: String::new(), err: String::new() });
+    world.run("zfs destroy back/a@2");
+    let said = world.receive(&step, &["back/a@3"]);
+    assert_eq!((said.status, said.err.as_str()), (1, "cannot restore to back/a@3: destination already exists\n"));
+}
+
+/// The texts are those of `set_callback`, `zfs_mount_at` and `zfs_mount_and_share` of OpenZFS 2.1.11. What is said of the mount has been done before.
+#[test]
+fn a_mountpoint_that_is_a_file_is_set_and_not_mounted() {
+    let world = World::with_pool();
+    let file = world.folder.join("tank.img").to_str().unwrap().to_owned();
+    world.run("zfs create -o mountpoint=legacy tank/a
+        zfs create -o mountpoint=none tank/b");
+    let no_folder = |name: &str, rest: &str| Said { status: 1, out: String::new(), err: format!("cannot mount '{name}': Not a directory\n{rest}\n") };
+    let set = "property may be set but unable to remount filesystem";
+    assert_eq!(world.line("zfs set sharenfs=on tank/a tank/b"), Said { status: 0, out: String::new(), err: String::new() });
+    world.run("zfs set sharenfs=off tank/a");
+    assert_eq!(world.line(&format!("zfs set mountpoint={file} tank/a")), no_folder("tank/a", set));
+    assert_eq!(value(&world, "mountpoint", "tank/a"), file);
+    for value in ["on", ""] {
+        assert_eq!(world.line(&format!("zfs set sharenfs={value} tank/a")), no_folder("tank/a", set));
+    }
+    assert_eq!(value(&world, "mounted", "tank/a"), "no");
+    let created = "filesystem successfully created, but not mounted";
+    assert_eq!(world.line(&format!("zfs create -o mountpoint={file} tank/c")), no_folder("tank/c", created));
+    world.run("zfs snapshot tank/c@s");
+    assert_eq!(world.line(&format!("zfs clone -o mountpoint={file} tank/c@s tank/d")), no_folder("tank/d", created));
+    assert_eq!(world.line("zfs mount tank/c").err, "cannot mount 'tank/c': Not a directory\n");
+    assert_eq!(names(&world, "tank"), ["tank", "tank/a", "tank/b", "tank/c", "tank/c@s", "tank/d"]);
+}
+
+/// A bookmark keeps what its snapshot referenced, as the feature `bookmark_written` has it; so has a bookmark of it.
+#[test]
+fn a_bookmark_tells_what_its_snapshot_referenced() {
+    let world = World::with_pool();
+    world.run("zfs create tank/a
+        zfs yuz-write tank/a 0 0 8 61
+        zfs snapshot tank/a@s
+        zfs bookmark tank/a@s tank/a#one
+        zfs bookmark tank/a#one tank/a#two");
+    let referenced = value(&world, "referenced", "tank/a@s");
+    world.run("zfs destroy tank/a@s
+        zfs yuz-write tank/a 0 0 9 62");
+    let told = world.run("zfs list -Hp -t bookmark -o name,used,avail,refer,lrefer,mountpoint");
+    assert_eq!(told, ["one", "two"].map(|name| format!("tank/a#{name}\t-\t-\t{referenced}\t{referenced}\t-\n")).concat());
+    assert_ne!(value(&world, "referenced", "tank/a"), referenced);
+}
+
+/// As `print_list_stats` of OpenZFS 2.1.11 has it: the size of each device, and the space of what stands at the top.
+#[test]
+fn a_list_of_pools_has_their_devices() {
+    let world = World::with_pool();
+    let files = ["one", "two"].map(|name| world.folder.join(name).to_str().unwrap().to_owned());
+    files.iter().zip([100, 80]).for_each(|(file, megabytes)| std::fs::File::create(file).unwrap().set_len(megabytes << 20).unwrap());
+    world.done("zpool", ["create", "-f", "both", "mirror", &files[0], &files[1]]);
+    let told = world.run("zpool list -vHp both");
+    let lines: Vec<Vec<&str>> = told.lines().map(|line| line.split('\t').collect()).collect();
+    let (size, used, free) = (lines[0][1], lines[0][2], lines[0][3]);
+    assert_eq!((lines.len(), size), (4, "83886080"));
+    assert_eq!(lines[1], ["", "mirror-0", size, used, free, "-", "-", "0", "0", "-", "ONLINE"]);
+    for (line, (file, bytes)) in lines[2..].iter().zip(files.iter().zip(["104857600", "83886080"])) {
+        assert_eq!(*line, ["", file, bytes, "-", "-", "-", "-", "-", "-", "-", "ONLINE"]);
+    }
+    let readable = world.run("zpool list -v tank");
+    let name = world.folder.join("tank.img").to_str().unwrap().to_owned();
+    assert!(readable.lines().nth(2).is_some_and(|line| line.starts_with(&format!("  {name}     1G")) && line.ends_with("0%  0.00%      -    ONLINE")), "{readable}");
+    assert!(world.run("zpool iostat -vHp both").contains(&format!("mirror-0\t{used}\t{free}\t0")));
+}
+
+/// As `zfs_prop_get` of libzfs 2.1.11 has it.
+#[test]
+fn an_alternate_root_stands_before_mountpoints() {
+    let world = World::with_pool();
+    world.run("zfs create tank/a
+        zfs create -o mountpoint=/ tank/b
+        zfs create -o mountpoint=legacy tank/c
+        zpool export tank
+        zpool import -R /nowhere/ tank");
+    let places = "tank\t/nowhere/tank\ntank/a\t/nowhere/tank/a\ntank/b\t/nowhere\ntank/c\tlegacy\n";
+    assert_eq!(world.run("zfs list -H -o name,mountpoint"), places);
+    assert!(world.run("zfs mount").contains("tank/a                          /nowhere/tank/a\n"));
+    world.run("zpool export tank
+        zpool import tank");
+    assert_eq!(value(&world, "mountpoint", "tank/a"), "/tank/a");
+}
+
+#[test]
+fn a_client_in_a_mountpoint_keeps_it() {
+    let world = World::with_pool();
+    let folder = world.folder.join("here").to_str().unwrap().to_owned();
+    std::fs::create_dir(&folder).unwrap();
+    world.run(&format!("zfs create -o mountpoint={folder} tank/a"));
+    for line in ["set mountpoint=/elsewhere tank/a", "set canmount=off tank/a", "inherit mountpoint tank/a"] {
+        let said: Said = world.command("zfs", line.split(' ')).current_dir(&folder).output().unwrap().into();
+        assert_eq!((said.status, said.err), (1, format!("cannot unmount '{folder}': pool or dataset is busy\n")), "{line}");
+    }
+    assert_eq!(world.run("zfs get -H -o value mountpoint,canmount,mounted tank/a"), format!("{folder}\non\nyes\n"));
+    let said: Said = world.command("zfs", ["set", "canmount=noauto", "tank/a"]).current_dir(&folder).output().unwrap().into();
+    assert_eq!((said.status, value(&world, "mounted", "tank/a").as_str()), (0, "yes"));
+}
+
 #[test]
 fn a_replication_stream_has_the_tree_with_its_properties() {
     let world = World::with_pool();

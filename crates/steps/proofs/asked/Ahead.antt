@@ -1,5 +1,5 @@
 -- What limits say of a receive that has begun, by what is foretold of its records.
-use Rattle.std.proofs.Common.{◌≡◌, ℕ, ◌+◌, ◌≤◌, ◌<◌, ◌^◌, Bool, List, [], ◌∷◌, Option, Some, map, refl, sym, ap, subst, ◌∙◌, arith}
+use Rattle.std.proofs.Common.{◌≡◌, ℕ, ◌+◌, ◌≤◌, ◌<◌, ◌^◌, List, [], ◌∷◌, Option, Some, map, refl, sym, ap, subst, ◌∙◌, arith}
 use Rattle.std.specs.Prelude.{count_by}
 use Rattle.std.specs.Option.{option_map}
 use Rattle.std.specs.FinMap.{get, keys}
@@ -18,6 +18,7 @@ use Rattle.stream.specs.Spelling.{Sending}
 use Rattle.zalloc.specs.States.{is_waiting}
 use Rattle.datasets.specs.Rows.{Row}
 use Rattle.datasets.specs.Clones.{row_in}
+use Rattle.model.specs.declared.receiving.Receiving.{Receiving}
 use Rattle.model.specs.World.{World, FileSystem, Live, reach_of, union_of}
 use Rattle.model.specs.State.{State, waiting_of}
 use Rattle.model.specs.Edits.{with_now, with_next_group, after_change}
@@ -52,9 +53,9 @@ use Rattle.steps.specs.declared.intake.Present.{Present}
 use Rattle.steps.specs.Intakes.{IsUnderWay}
 use Rattle.steps.proofs.requests.Taking.{to_is, freeing_is, can_take}
 
-module _ (s : State) (p : Present) (m : Member) (sent : Sending) (force : Bool) (edit : WorkingCopy) (us : List Update) (way : IsUnderWay s p m sent force edit us) where
+module _ (s : State) (p : Present) (m : Member) (sent : Sending) (mode : Receiving) (edit : WorkingCopy) (us : List Update) (way : IsUnderWay s p m sent mode edit us) where
   abbrev w : World
-  w = before_receive s.now m.file_system sent force
+  w = before_receive s.now m.file_system sent mode
 
   abbrev here : State
   here = with_now s w
@@ -66,16 +67,16 @@ module _ (s : State) (p : Present) (m : Member) (sent : Sending) (force : Bool) 
   ch = changes_of_records sent.records
 
   abbrev can : AreTakable w.file_systems (m ∷ [])
-  can = can_take s p m sent force edit us way
+  can = can_take s p m sent mode edit us way
 
   abbrev asked : State
-  asked = asked_by_receive s m sent force
+  asked = asked_by_receive s m sent mode
 
   is_begun : IsBegun s w
-  is_begun = begun_world s way.present.steady m sent force way.none
+  is_begun = begun_world s way.present.steady m sent mode way.none
 
   pub hierarchy_to : IsHierarchy edit.to.file_systems
-  hierarchy_to = subst (λ (t : Datasets). IsHierarchy t.file_systems) (sym (to_is s p m sent force edit us way)) is_begun.good.now.systems.hierarchy
+  hierarchy_to = subst (λ (t : Datasets). IsHierarchy t.file_systems) (sym (to_is s p m sent mode edit us way)) is_begun.good.now.systems.hierarchy
 
   -- as many numbers wait as blocks
   counted : count_by is_waiting p.allocator.now ≡ set.len (waiting_of s)
@@ -97,15 +98,15 @@ module _ (s : State) (p : Present) (m : Member) (sent : Sending) (force : Bool) 
 
     -- what its datasets have can be counted by so many bits
     pub few_to : set.len (union_of (world_of edit.to)) < 2 ^ 32
-    few_to = subst (λ t. set.len (union_of (world_of t)) < 2 ^ 32) (sym (to_is s p m sent force edit us way))
+    few_to = subst (λ t. set.len (union_of (world_of t)) < 2 ^ 32) (sym (to_is s p m sent mode edit us way))
         (subst (λ u. set.len u < 2 ^ 32) (sym (union-fields (world_of (datasets_of here)) w refl))
-        (begun_few s way.present.steady m sent force way.none can p.allocator.now way.present.states size_small))
+        (begun_few s way.present.steady m sent mode way.none can p.allocator.now way.present.states size_small))
 
     module _ (k : Member) (same : k ≡ m) (r : Row)
         (found : Some r ≡ option_map {T = FileSystem} {U = Row} (λ f. row_in edit.to.file_systems (k.file_system, f)) (get edit.to.file_systems k.file_system)) (live : Map) (live_is : live ≡ r.system.live) (f : Forecast) (forecast : IsForecast live (changes_of us) f) where
       found_here : Some r ≡ option_map {T = FileSystem} {U = Row} (λ f. row_in w.file_systems (name, f)) (get w.file_systems name)
       found_here =
-          subst (λ (t : Datasets). Some r ≡ option_map {T = FileSystem} {U = Row} (λ f. row_in t.file_systems (name, f)) (get t.file_systems name)) (to_is s p m sent force edit us way)
+          subst (λ (t : Datasets). Some r ≡ option_map {T = FileSystem} {U = Row} (λ f. row_in t.file_systems (name, f)) (get t.file_systems name)) (to_is s p m sent mode edit us way)
           (subst (λ (j : Member). Some r ≡ option_map {T = FileSystem} {U = Row} (λ f. row_in edit.to.file_systems (j.file_system, f)) (get edit.to.file_systems j.file_system)) same found)
 
       named : r.name ≡ name
@@ -115,14 +116,14 @@ module _ (s : State) (p : Present) (m : Member) (sent : Sending) (force : Bool) 
       there = (found_row (datasets_of here) name r found_here).0.there
 
       -- it is a forecast of the records
-      pub is_ahead : IsAhead (with_now s (before_receive s.now m.file_system sent force)) (changes_of_records sent.records) r f p.synced.0
+      pub is_ahead : IsAhead (with_now s (before_receive s.now m.file_system sent mode)) (changes_of_records sent.records) r f p.synced.0
       is_ahead = record {
         good = is_begun.good;
         there = there;
         below = ap (λ (x : Row). x.below) (found_row (datasets_of here) name r found_here).0.is;
         forecast = subst (λ (x : Map × Changes). IsForecast x.0 x.1 f) (λ i. (live_is i, way.changes i)) forecast;
         opened = sym way.present.synced;
-        few = begun_few s way.present.steady m sent force way.none can p.allocator.now way.present.states size_small;
+        few = begun_few s way.present.steady m sent mode way.none can p.allocator.now way.present.states size_small;
       }
 
       survey_here : IsSurvey can.0.0.live ch (map dead_block f.dropped.items) is_ahead.forecast.made
@@ -135,7 +136,7 @@ module _ (s : State) (p : Present) (m : Member) (sent : Sending) (force : Bool) 
         is_look = told here ch is_ahead m (sym named) can sent.target
 
         kept_is : with_now s (with_next_group (with_snapshot (after_change w r.name ch (fresh_number s)) m sent.target)) ≡ asked
-        kept_is = ap (λ n. with_now s (with_next_group (with_snapshot (after_change w n ch (fresh_number s)) m sent.target))) named ∙ sym (receive_asked_is s way.present.steady m sent force way.none can)
+        kept_is = ap (λ n. with_now s (with_next_group (with_snapshot (after_change w n ch (fresh_number s)) m sent.target))) named ∙ sym (receive_asked_is s way.present.steady m sent mode way.none can)
 
         is_here : look.here ≡ used_here asked.now name
         is_here = is_look.here ∙ (λ i. used_here (kept_is i).now (named i))
@@ -146,7 +147,7 @@ module _ (s : State) (p : Present) (m : Member) (sent : Sending) (force : Bool) 
         waits : set.len (waiting_of s) + look.waiting ≡ set.len (waiting_of asked)
         waits =
             let a = is_look.waiting in
-            let b = begun_waiting s way.present.steady m sent force way.none can in
+            let b = begun_waiting s way.present.steady m sent mode way.none can in
             let c = ap (λ x. set.len (waiting_of x)) kept_is in
             omega (arith, a, b, c)
 
@@ -160,14 +161,14 @@ module _ (s : State) (p : Present) (m : Member) (sent : Sending) (force : Bool) 
 
         -- one account is another
         is_changed : IsChanged (world_of edit.to) asked.now name look.here look.referenced
-        is_changed = subst (λ t. IsChanged (world_of t) asked.now name look.here look.referenced) (sym (to_is s p m sent force edit us way))
-            (receive_foretold s way.present.steady m sent force way.none can (map dead_block f.dropped.items) is_ahead.forecast.made survey_here look.here look.referenced is_here is_referenced)
+        is_changed = subst (λ t. IsChanged (world_of t) asked.now name look.here look.referenced) (sym (to_is s p m sent mode edit us way))
+            (receive_foretold s way.present.steady m sent mode way.none can (map dead_block f.dropped.items) is_ahead.forecast.made survey_here look.here look.referenced is_here is_referenced)
 
         module _ (space : Space) (size : space.size ≡ p.size) (freed : space.freeing ≡ set.len edit.freeing) (waiting : space.waiting ≡ count_by is_waiting p.allocator.now + look.waiting) where
           beside : IsSpaceOf asked space
           beside = record {
             size = size ∙ sym way.present.size;
-            freeing = freed ∙ ap set.len (freeing_is s p m sent force edit us way ∙ sym (asked_freeing s way.present.steady m sent force way.none can));
+            freeing = freed ∙ ap set.len (freeing_is s p m sent mode edit us way ∙ sym (asked_freeing s way.present.steady m sent mode way.none can));
             waiting = let c = counted in let a = waits in omega (arith, waiting, c, a);
           }
 
@@ -175,6 +176,6 @@ module _ (s : State) (p : Present) (m : Member) (sent : Sending) (force : Bool) 
           pub over_is : (filled lines : List Line) → filled ≡ ledger_of (world_of edit.to)
               → ((old new : World) → IsHierarchy old.file_systems → keys old.file_systems ≡ keys edit.to.file_systems → filled ≡ ledger_of old → IsChanged old new k.file_system look.here look.referenced → lines ≡ ledger_of new)
               → (over : Option Refusal) → ((x : State) → IsHierarchy x.now.file_systems → lines ≡ ledger_of x.now → IsSpaceOf x space → over ≡ first_of (limit_row x))
-              → over ≡ first_of (limit_row (asked_by_receive s m sent force))
+              → over ≡ first_of (limit_row (asked_by_receive s m sent mode))
           over_is filled lines of settled over said =
               said asked is_changed.hierarchy (settled (world_of edit.to) asked.now hierarchy_to refl of (subst (λ (j : Member). IsChanged (world_of edit.to) asked.now j.file_system look.here look.referenced) (sym same) is_changed)) beside

@@ -1,5 +1,5 @@
 -- What limits are asked of a receive is a change of one account: what is told of it before a record is in force.
-use Rattle.std.proofs.Common.{◌≡◌, ℕ, ◌<◌, ◌^◌, Bool, List, [], ◌∷◌, Some, None, refl, sym, ap, subst, ◌∙◌, ⊎_elim, arith}
+use Rattle.std.proofs.Common.{◌≡◌, ℕ, ◌<◌, ◌^◌, List, [], ◌∷◌, Some, None, refl, sym, ap, subst, ◌∙◌, ⊎_elim, arith}
 use Rattle.std.specs.FinMap.{get, keys}
 use Rattle.std.specs.FinSet as set
 use Rattle.std.specs.FinSet.{difference}
@@ -11,6 +11,7 @@ use Rattle.base.specs.declared.name.member.Member.{Member}
 use Rattle.stream.specs.Records.{changes_of}
 use Rattle.stream.specs.Spelling.{Sending}
 use Rattle.zalloc.specs.declared.BlockState.{BlockState}
+use Rattle.model.specs.declared.receiving.Receiving.{Receiving}
 use Rattle.model.specs.World.{World, FileSystem, Live, union_of, reach_of}
 use Rattle.model.specs.State.{State, waiting_of}
 use Rattle.model.specs.Edits.{with_now, with_next_group, after_change}
@@ -42,10 +43,10 @@ use Rattle.steps.proofs.numbers.Counts.{count-free}
 use Rattle.steps.proofs.quotas.Foretold.{changed_keys, foretold}
 use Rattle.steps.proofs.numbers.Known.{states_of}
 
-module _ (s : State) (steady : IsSteady s) (m : Member) (sent : Sending) (force : Bool) (none : first_of (stream_row s.now m sent force) ≡ None)
-    (can : AreTakable (before_receive s.now m.file_system sent force).file_systems (m ∷ [])) where
+module _ (s : State) (steady : IsSteady s) (m : Member) (sent : Sending) (mode : Receiving) (none : first_of (stream_row s.now s.views m sent mode) ≡ None)
+    (can : AreTakable (before_receive s.now m.file_system sent mode).file_systems (m ∷ [])) where
   abbrev w : World
-  w = before_receive s.now m.file_system sent force
+  w = before_receive s.now m.file_system sent mode
 
   abbrev begun : State
   begun = with_now s w
@@ -60,7 +61,7 @@ module _ (s : State) (steady : IsSteady s) (m : Member) (sent : Sending) (force 
   f = can.0.0
 
   is : IsBegun s w
-  is = begun_world s steady m sent force none
+  is = begun_world s steady m sent mode none
 
   abbrev asked : World
   asked = after_change w name ch (fresh_number s)
@@ -68,7 +69,7 @@ module _ (s : State) (steady : IsSteady s) (m : Member) (sent : Sending) (force 
   abbrev last : World
   last = with_next_group (with_snapshot asked m sent.target)
 
-  pub receive_asked_is : asked_by_receive s m sent force ≡ with_now s (with_next_group (with_snapshot (after_change (before_receive s.now m.file_system sent force) m.file_system (changes_of sent.records) (fresh_number s)) m sent.target))
+  pub receive_asked_is : asked_by_receive s m sent mode ≡ with_now s (with_next_group (with_snapshot (after_change (before_receive s.now m.file_system sent mode) m.file_system (changes_of sent.records) (fresh_number s)) m sent.target))
   unfolding received
   receive_asked_is = refl
 
@@ -82,16 +83,16 @@ module _ (s : State) (steady : IsSteady s) (m : Member) (sent : Sending) (force 
   can_take = ((record f { live = rewrite f.live ch w.group (fresh_number s) }, there, can.0.2), (λ k i. absurd i), tt)
 
   -- as many blocks wait as before
-  pub begun_waiting : set.len (waiting_of (with_now s (before_receive s.now m.file_system sent force))) ≡ set.len (waiting_of s)
+  pub begun_waiting : set.len (waiting_of (with_now s (before_receive s.now m.file_system sent mode))) ≡ set.len (waiting_of s)
   unfolding waiting_of
   begun_waiting = ap (λ r. set.len (difference (reach_of s.last) r)) is.reach
 
   -- what is to be freed then is to be freed from the beginning
-  pub asked_freeing : (asked_by_receive s m sent force).now.freeing ≡ (before_receive s.now m.file_system sent force).freeing
+  pub asked_freeing : (asked_by_receive s m sent mode).now.freeing ≡ (before_receive s.now m.file_system sent mode).freeing
   asked_freeing = ap (λ (x : State). x.now.freeing) receive_asked_is ∙ taken_freeing asked systems m sent.target can_take ∙ change_frees_none w name f can.0.1 ch (fresh_number s)
 
   -- what its datasets have can be counted by so many bits
-  pub begun_few : (numbers : List BlockState) → HasStates s numbers → s.size < 2 ^ 32 → set.len (union_of (before_receive s.now m.file_system sent force)) < 2 ^ 32
+  pub begun_few : (numbers : List BlockState) → HasStates s numbers → s.size < 2 ^ 32 → set.len (union_of (before_receive s.now m.file_system sent mode)) < 2 ^ 32
   begun_few numbers known small =
       let l = len-subset o (union_of w) (set.union (reach_of s.now) (reach_of s.last))
       (λ b h. in_union_left o (reach_of s.now) (reach_of s.last) b (subst (λ y. Has y b) (sym (reach_is w) ∙ is.reach) (in_union_left o (union_of w) w.freeing b h))) in
@@ -99,8 +100,8 @@ module _ (s : State) (steady : IsSteady s) (m : Member) (sent : Sending) (force 
       omega (arith, l, c, small)
 
   module _ (dropped : List Block) (made : List Key) (survey : IsSurvey f.live ch dropped made) (here referenced : ℕ)
-      (is_here : here ≡ used_here (asked_by_receive s m sent force).now m.file_system)
-      (is_referenced : referenced ≡ referenced_of (asked_by_receive s m sent force).now (Live m.file_system)) where
+      (is_here : here ≡ used_here (asked_by_receive s m sent mode).now m.file_system)
+      (is_referenced : referenced ≡ referenced_of (asked_by_receive s m sent mode).now (Live m.file_system)) where
     mid : IsChanged (world_of (datasets_of begun)) asked name (used_here asked name) (referenced_of asked (Live name))
     mid = foretold begun is.good name f can.0.1 ch dropped made survey (used_here asked name) (referenced_of asked (Live name)) refl refl
 
@@ -130,5 +131,5 @@ module _ (s : State) (steady : IsSteady s) (m : Member) (sent : Sending) (force 
     }
 
     -- in the world that they are asked of, one account is another
-    pub receive_foretold : IsChanged (world_of (datasets_of (with_now s (before_receive s.now m.file_system sent force)))) (asked_by_receive s m sent force).now m.file_system here referenced
+    pub receive_foretold : IsChanged (world_of (datasets_of (with_now s (before_receive s.now m.file_system sent mode)))) (asked_by_receive s m sent mode).now m.file_system here referenced
     receive_foretold = subst (λ (x : State). IsChanged (world_of (datasets_of begun)) x.now name here referenced) (sym receive_asked_is) later

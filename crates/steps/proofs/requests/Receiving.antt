@@ -24,6 +24,7 @@ use Rattle.tree.specs.Taking.{takes, AllFree}
 use Rattle.datasets.specs.Rows.{live_of, with_snap}
 use Rattle.datasets.specs.Snapshots.{with_snap_at}
 use Rattle.datasets.specs.Writes.{young_of, HasWritten}
+use Rattle.model.specs.declared.receiving.Receiving.{Receiving}
 use Rattle.model.specs.declared.request.Request.TheVariants.{Receive}
 use Rattle.model.specs.declared.reply.Reply.TheVariants.{Done, Refused}
 use Rattle.model.specs.World.{World, FileSystem, Snap, union_of, reach_of}
@@ -61,7 +62,7 @@ use Rattle.steps.specs.Steady.{IsSteady}
 use Rattle.steps.specs.Edits.{datasets_of, with_datasets}
 use Rattle.steps.specs.Received.{asked_by_receive, put_freeing, CanReceive}
 use Rattle.steps.proofs.quotas.Bounded.{first_left, first_after}
-use Rattle.steps.proofs.ledgers.Grown.{IsGrown, grown_then, grown_put, begun_grown}
+use Rattle.steps.proofs.ledgers.Grown.{IsGrown, IsPruned, grown_then, grown_put, pruned_then, begun_pruned}
 use Rattle.steps.proofs.requests.Batching.{live_there_is, batch_apart, batch_enough, batch_room, batch_leads, batch_good, batch_swept, batch_there, batch_unlimited, batch_settles, batch_takable}
 use Rattle.steps.proofs.requests.Beginning.{IsBegun, begun_world}
 use Rattle.steps.proofs.numbers.Known.{states_of, of_states}
@@ -71,40 +72,40 @@ use Rattle.steps.proofs.quotas.Unlimited.{AreKnown, AreOriginsIn, unlimited_put,
 
 -- ---- why it is refused
 
-module _ (s : State) (m : Member) (bytes : List ℕ) (force : Bool) where
+module _ (s : State) (m : Member) (bytes : List ℕ) (mode : Receiving) where
   -- memory is wanting, whatever the bytes say
-  pub receive_no_memory : Step s (Receive m bytes force) (Refused NoMemory) s
+  pub receive_no_memory : Step s (Receive m bytes mode) (Refused NoMemory) s
   receive_no_memory = record { reading = None; read = inr refl; follows = out_of_memory (record { may = refl; reply_is = refl; unchanged = refl }) }
 
   -- bytes that are no stream
-  pub receive_bad_stream : IsNoStream bytes → Step s (Receive m bytes force) (Refused BadStream) s
+  pub receive_bad_stream : IsNoStream bytes → Step s (Receive m bytes mode) (Refused BadStream) s
   unfolding refusal_of
-  receive_bad_stream none = refused_by (Receive m bytes force) (receive_rule m None force) (None, none, refl) s BadStream refl
+  receive_bad_stream none = refused_by (Receive m bytes mode) (receive_rule m None mode) (None, none, refl) s BadStream refl
 
   module _ (sent : Sending) (is : IsStream bytes sent) where
     abbrev rule : Rule
-    rule = receive_rule m (Some sent) force
+    rule = receive_rule m (Some sent) mode
 
     -- a stream that another row refuses than that of the limits
-    pub receive_refused : (why : Refusal) → first_of (stream_row s.now m sent force) ≡ Some why → Step s (Receive m bytes force) (Refused why) s
+    pub receive_refused : (why : Refusal) → first_of (stream_row s.now s.views m sent mode) ≡ Some why → Step s (Receive m bytes mode) (Refused why) s
     unfolding refusal_of
-    receive_refused why e = refused_by (Receive m bytes force) rule (Some sent, is, refl) s why
-        (first_left (stream_row s.now m sent force) (limit_row (state_asked s rule)) why e)
+    receive_refused why e = refused_by (Receive m bytes mode) rule (Some sent, is, refl) s why
+        (first_left (stream_row s.now s.views m sent mode) (limit_row (state_asked s rule)) why e)
 
-    module _ (none : first_of (stream_row s.now m sent force) ≡ None) where
+    module _ (none : first_of (stream_row s.now s.views m sent mode) ≡ None) where
       -- what earlier rows don't refuse, the limits say
-      row_is : refusal_of s (receive_rule m (Some sent) force) ≡ first_of (limit_row (asked_by_receive s m sent force))
+      row_is : refusal_of s (receive_rule m (Some sent) mode) ≡ first_of (limit_row (asked_by_receive s m sent mode))
       unfolding refusal_of state_asked
-      row_is = first_after (stream_row s.now m sent force) (limit_row (state_asked s rule)) none
+      row_is = first_after (stream_row s.now s.views m sent mode) (limit_row (state_asked s rule)) none
 
       -- a stream by which a limit would be passed
-      pub receive_refused_by_limit : (why : Refusal) → first_of (limit_row (asked_by_receive s m sent force)) ≡ Some why → Step s (Receive m bytes force) (Refused why) s
-      receive_refused_by_limit why over = refused_by (Receive m bytes force) rule (Some sent, is, refl) s why (row_is ∙ over)
+      pub receive_refused_by_limit : (why : Refusal) → first_of (limit_row (asked_by_receive s m sent mode)) ≡ Some why → Step s (Receive m bytes mode) (Refused why) s
+      receive_refused_by_limit why over = refused_by (Receive m bytes mode) rule (Some sent, is, refl) s why (row_is ∙ over)
 
       -- and one that nothing refuses, with new blocks of these numbers
-      pub receive_done_by : (number : Key → ℕ) (t : State) → first_of (limit_row (asked_by_receive s m sent force)) ≡ None
-          → t ≡ with_now s (received s.now m sent force number) → IsSteady t → Step s (Receive m bytes force) Done t
-      receive_done_by number t fits after steady = done_by (Receive m bytes force) rule (Some sent, is, refl) s (record { number = number; taken = set.empty }) t Done
+      pub receive_done_by : (number : Key → ℕ) (t : State) → first_of (limit_row (asked_by_receive s m sent mode)) ≡ None
+          → t ≡ with_now s (received s.now m sent mode number) → IsSteady t → Step s (Receive m bytes mode) Done t
+      receive_done_by number t fits after steady = done_by (Receive m bytes mode) rule (Some sent, is, refl) s (record { number = number; taken = set.empty }) t Done
           refl refl (row_is ∙ fits) refl after steady
 
 -- ---- other datasets put in place, with other blocks to be freed: no number is in another state than the worlds give it
@@ -141,15 +142,15 @@ row-value q f p false a c e = rw (a, c, e) refl
 not_le : (x y : ℕ) → y < x → nat_le x y ≡ false
 not_le x y h = ⊎_elim (λ t. let l = t.1 in absurd (omega arith)) (λ t. t.0) (leb_tells x y)
 
-module _ (s : State) (steady : IsSteady s) (numbers : List BlockState) (known : HasStates s numbers) (m : Member) (sent : Sending) (force : Bool)
-    (none : first_of (stream_row s.now m sent force) ≡ None)
-    (can : AreTakable (before_receive s.now m.file_system sent force).file_systems (m ∷ [])) where
+module _ (s : State) (steady : IsSteady s) (numbers : List BlockState) (known : HasStates s numbers) (m : Member) (sent : Sending) (mode : Receiving)
+    (none : first_of (stream_row s.now s.views m sent mode) ≡ None)
+    (can : AreTakable (before_receive s.now m.file_system sent mode).file_systems (m ∷ [])) where
   -- the state that it begins with, before any record
   abbrev pub begun : State
-  begun = with_now s (before_receive s.now m.file_system sent force)
+  begun = with_now s (before_receive s.now m.file_system sent mode)
 
   abbrev w : World
-  w = before_receive s.now m.file_system sent force
+  w = before_receive s.now m.file_system sent mode
 
   abbrev name : Name
   name = m.file_system
@@ -161,10 +162,10 @@ module _ (s : State) (steady : IsSteady s) (numbers : List BlockState) (known : 
   f = can.0.0
 
   is : IsBegun s w
-  is = begun_world s steady m sent force none
+  is = begun_world s steady m sent mode none
 
   -- no number changes its state
-  pub begun_states : HasStates (with_now s (before_receive s.now m.file_system sent force)) numbers
+  pub begun_states : HasStates (with_now s (before_receive s.now m.file_system sent mode)) numbers
   begun_states = of_states begun numbers (subst (λ r. AreStatesOf r (reach_of s.last) s.size numbers) (sym is.reach) (states_of s numbers known))
 
   -- ---- the world that limits are asked of
@@ -184,7 +185,7 @@ module _ (s : State) (steady : IsSteady s) (numbers : List BlockState) (known : 
   abbrev last : World
   last = with_next_group (with_snapshot asked m sent.target)
 
-  asked_is : asked_by_receive s m sent force ≡ with_now s last
+  asked_is : asked_by_receive s m sent mode ≡ with_now s last
   unfolding received
   asked_is = refl
 
@@ -214,13 +215,13 @@ module _ (s : State) (steady : IsSteady s) (numbers : List BlockState) (known : 
         subst (λ (p : BlockSet × BlockSet). AreDisjoint p.0 p.1) (λ i. (sym u i, sym g i)) (batch_apart begun is.good numbers begun_states name f can.0.1 ch dropped made live_survey)
 
     -- where the limits hold, the Free numbers and the dropped young blocks are enough
-    enough : first_of (limit_row (asked_by_receive s m sent force)) ≡ None → length made ≤ count_by is_free numbers + young_count (young_of (datasets_of begun) name s.last.group) dropped
+    enough : first_of (limit_row (asked_by_receive s m sent mode)) ≡ None → length made ≤ count_by is_free numbers + young_count (young_of (datasets_of begun) name s.last.group) dropped
     enough fits = batch_enough begun is.good numbers begun_states name f can.0.1 ch dropped made live_survey last last_systems last_apart last_reach
-        (ap pool_holds (sym asked_is) ∙ (limits_met (asked_by_receive s m sent force) (limits_asked (asked_by_receive s m sent force) fits)).1)
+        (ap pool_holds (sym asked_is) ∙ (limits_met (asked_by_receive s m sent mode) (limits_asked (asked_by_receive s m sent mode) fits)).1)
 
     -- and where no file system has a limit, they hold exactly then
     limits_bare : IsUnlimited s.now.file_systems → (b : Bool) → nat_le (length made) (count_by is_free numbers + young_count (young_of (datasets_of begun) name s.last.group) dropped) ≡ b
-        → first_of (limit_row (asked_by_receive s m sent force)) ≡ cond b None (Some NoSpace)
+        → first_of (limit_row (asked_by_receive s m sent mode)) ≡ cond b None (Some NoSpace)
     limits_bare bare b e =
         ap (λ x. first_of (limit_row x)) asked_is
         ∙ row-value _ _ _ b (quotas_unlimited last (last_unlimited bare)) (refquotas_unlimited last (last_unlimited bare))
@@ -228,16 +229,16 @@ module _ (s : State) (steady : IsSteady s) (numbers : List BlockState) (known : 
 
   -- where no file system has a limit and there is room, the limits hold
   pub receive_fits : IsUnlimited s.now.file_systems → HasRoom (live_of w.file_systems name) ch (young_of (datasets_of begun) name s.last.group) numbers
-      → first_of (limit_row (asked_by_receive s m sent force)) ≡ None
+      → first_of (limit_row (asked_by_receive s m sent mode)) ≡ None
   receive_fits bare room = limits_bare room.dropped room.made room.survey bare true (le-leb _ _ room.enough)
 
   -- and where there is none, the pool is full
   pub receive_short : IsUnlimited s.now.file_systems → LacksRoom (live_of w.file_systems name) ch (young_of (datasets_of begun) name s.last.group) numbers
-      → first_of (limit_row (asked_by_receive s m sent force)) ≡ Some NoSpace
+      → first_of (limit_row (asked_by_receive s m sent mode)) ≡ Some NoSpace
   receive_short bare lacks = limits_bare lacks.dropped lacks.made lacks.survey bare false (not_le _ _ lacks.short)
 
   -- where they hold, there is room
-  pub receive_not_short : first_of (limit_row (asked_by_receive s m sent force)) ≡ None
+  pub receive_not_short : first_of (limit_row (asked_by_receive s m sent mode)) ≡ None
       → LacksRoom (live_of w.file_systems name) ch (young_of (datasets_of begun) name s.last.group) numbers → ⊥
   receive_not_short fits lacks =
       let e = enough lacks.dropped lacks.made lacks.survey fits in
@@ -277,8 +278,8 @@ module _ (s : State) (steady : IsSteady s) (numbers : List BlockState) (known : 
     to_is = kept ∙ ap (λ x. option_map_or (λ (y : FileSystem). with_system (record written { group = written.group + 1 }) name (with_snap y m.component sent.target written.group)) x (record written { group = written.group + 1 })) changed_there
 
     -- the file system of its name alone is another, or new, and has the snapshots that it had
-    pub received_grown : IsGrown s.now.file_systems to.file_systems m.file_system
-    received_grown = grown_then s.now.file_systems w.file_systems to.file_systems name (begun_grown s steady m sent force none)
+    pub received_pruned : IsPruned s.now.file_systems to.file_systems m.file_system
+    received_pruned = pruned_then s.now.file_systems w.file_systems to.file_systems name (begun_pruned s steady m sent mode none)
         (grown_then w.file_systems written.file_systems to.file_systems name
         (subst (λ (x : FileSystems). IsGrown w.file_systems x name) (sym written_is) (grown_put w.file_systems name live_changed (λ g v at i. subst (λ (y : FileSystem). IsIn y.snaps v) (same_value g f (sym at ∙ can.0.1)) i)))
         (subst (λ (x : Datasets). IsGrown written.file_systems x.file_systems name) (sym to_is)
@@ -305,14 +306,14 @@ module _ (s : State) (steady : IsSteady s) (numbers : List BlockState) (known : 
         (put_origins written.file_systems written.file_systems (same_origins written.file_systems) name changed longer changed_there refl))
         (batch_swept begun is.good numbers begun_states name f can.0.1 ch written done change is.swept)
 
-    end_met : first_of (limit_row (asked_by_receive s m sent force)) ≡ None → AreQuotasMet end
+    end_met : first_of (limit_row (asked_by_receive s m sent mode)) ≡ None → AreQuotasMet end
     end_met fits =
         subst (λ (x : State). AreQuotasMet (with_next_group (with_snapshot x.now m sent.target))) (sym leads.1)
         (taken_holds asked (after_change w name ch leads.0) systems leads.2.now.systems
         (asked_alike begun is.good name f can.0.1 ch (record { number = leads.0; taken = set.empty }) leads.2) m sent.target (can_take (fresh_number s)) (can_take leads.0)
-        (subst (λ (x : State). AreQuotasMet x.now) asked_is (limits_met (asked_by_receive s m sent force) (limits_asked (asked_by_receive s m sent force) fits)).0))
+        (subst (λ (x : State). AreQuotasMet x.now) asked_is (limits_met (asked_by_receive s m sent mode) (limits_asked (asked_by_receive s m sent mode) fits)).0))
 
-    end_steady : first_of (limit_row (asked_by_receive s m sent force)) ≡ None → IsSteady (put_freeing s to freeing)
+    end_steady : first_of (limit_row (asked_by_receive s m sent mode)) ≡ None → IsSteady (put_freeing s to freeing)
     end_steady fits = subst IsSteady (sym end_is) (record {
       good = snapshots_before mid mid_good sent.target (m ∷ []) can_keep;
       swept = end_swept;
@@ -323,7 +324,7 @@ module _ (s : State) (steady : IsSteady s) (numbers : List BlockState) (known : 
     end_reach = ap (λ (x : State). reach_of x.now) end_is ∙ taken_reach mid.now mid_good.now.systems m sent.target can_keep
 
     -- where the limits hold, the datasets can be put in place
-    pub receive_can : first_of (limit_row (asked_by_receive s m sent force)) ≡ None
+    pub receive_can : first_of (limit_row (asked_by_receive s m sent mode)) ≡ None
         → CanReceive s to freeing (map dead_block done.released.items) (map (λ n. n.0) done.taken.items)
     receive_can fits = record {
       steady = end_steady fits;
@@ -344,8 +345,8 @@ module _ (s : State) (steady : IsSteady s) (numbers : List BlockState) (known : 
         (unlimited_put written.file_systems mid_bare name (with_snap changed m.component sent.target written.group) (is.unlimited bare name f can.0.1))
 
     -- and the receive is done
-    pub receive_done : (bytes : List ℕ) → IsStream bytes sent → first_of (limit_row (asked_by_receive s m sent force)) ≡ None
-        → Step s (Receive m bytes force) Done (put_freeing s to freeing)
+    pub receive_done : (bytes : List ℕ) → IsStream bytes sent → first_of (limit_row (asked_by_receive s m sent mode)) ≡ None
+        → Step s (Receive m bytes mode) Done (put_freeing s to freeing)
     unfolding received
-    receive_done bytes stream fits = receive_done_by s m bytes force sent stream none leads.0 (put_freeing s to freeing) fits
+    receive_done bytes stream fits = receive_done_by s m bytes mode sent stream none leads.0 (put_freeing s to freeing) fits
         (end_is ∙ ap (λ (x : State). with_now s (with_next_group (with_snapshot x.now m sent.target))) leads.1) (end_steady fits)

@@ -167,7 +167,7 @@ fewer_marks : (m : FinMap name_cmp Bookmark) (p : List ℕ × Bookmark → Bool)
 fewer_marks m p k b h =
     at_entry name_order m k b (kept_entries p (entries m) k b (entry_from_find name_order (filter p (entries m)) k b (sym (get-from_entries name_order.total (filter p (entries m)) k) ∙ h)))
 
-insert_twice : (ss : FileSystems) (name : Name) (a b : FileSystem) → insert (insert ss name a) name b ≡ insert ss name b
+pub insert_twice : (ss : FileSystems) (name : Name) (a b : FileSystem) → insert (insert ss name a) name b ≡ insert ss name b
 insert_twice ss name a b = same_map name_order.total name_order.exact _ _ (λ q. ⊎_elim
     (λ (same : q ≡ name). ap (get (insert (insert ss name a) name b)) same ∙ put_here (insert ss name a) name b ∙ sym (put_here ss name b) ∙ ap (get (insert ss name b)) (sym same))
     (λ (ne : ¬ (q ≡ name)). put_other (insert ss name a) name b q ne ∙ put_other ss name a q ne ∙ sym (put_other ss name b q ne))

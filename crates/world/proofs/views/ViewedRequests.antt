@@ -44,7 +44,7 @@ row_false (x ∷ xs) none r h = by_first x.0 refl (λ k. row_false xs k r) none 
     by_first false e rest k i = ⊎_elim (λ (is : r ≡ x). ap (λ (y : Bool × Refusal). y.0) is ∙ e) (rest k) i
 
 -- none of the snapshots has an open view
-not_viewed : (w : World) (views : Views) (ids : List SnapId) → is_busy w views ids ≡ false → (id : SnapId) → IsIn ids id → is_viewed views id ≡ true → ⊥
+pub not_viewed : (w : World) (views : Views) (ids : List SnapId) → is_busy w views ids ≡ false → (id : SnapId) → IsIn ids id → is_viewed views id ≡ true → ⊥
 not_viewed w views ids e id h seen =
     true≢false (sym seen ∙ (or_none _ _ (any_none (λ id. is_viewed views id || option_map_or (λ (p : Name × Snap). nat_lt 0 (length p.1.tags)) (snap_at w id) false) ids e id h)).0)
 
@@ -69,7 +69,7 @@ added_safe views w name f bare once closed absent = safe_fewer views w (record w
     (put_cases w.file_systems name f q h.0 h.1))
     (λ q t h seen. (h.0, put_other w.file_systems name f q (λ same. no_value h.0 (sym absent ∙ ap (get w.file_systems) (sym same) ∙ h.1)) ∙ h.1, h.2))
 
-pub not_some : (x : Option FileSystem) → is_some x ≡ false → x ≡ None
+pub not_some : {A : Type 0} (x : Option A) → is_some x ≡ false → x ≡ None
 not_some None e = refl
 not_some (Some x) e = absurd (true≢false e)
 
@@ -110,7 +110,7 @@ from_placed w (OfSnapshot m) p e = by_system (get w.file_systems m.file_system) 
     by_system (Some f) i k = let r = by_snap f (find (λ t. same_name t.name m.component) f.snaps) refl k in (m.file_system, i ∙ ap Some r.0, r.1)
 
 -- what isn't newer than the snapshot stays
-back_safe : (views : Views) (w : World) (name : Name) (p : FileSystem × Snap) → AreOnce w → AreClosed w → get w.file_systems name ≡ Some p.0
+pub back_safe : (views : Views) (w : World) (name : Name) (p : FileSystem × Snap) → AreOnce w → AreClosed w → get w.file_systems name ≡ Some p.0
     → is_busy w views (map id_of (snaps_after p.0 p.1.group)) ≡ false → IsSafe views w (with_file_system w name (λ f. back_at f p.1))
 back_safe views w name p once closed at idle = one_changed views w name (λ f. back_at f p.1) once closed
     (λ s t e h. (from_filter (λ (u : Snap). nat_le u.group p.1.group) s.snaps t h).0)

@@ -13,6 +13,7 @@ use Rattle.base.specs.Rewrite.{Changes, rewrite}
 use Rattle.stream.specs.Spelling.{Sending}
 use Rattle.model.specs.Limits.{limited}
 use Rattle.model.specs.declared.limits.Limit.{Limit}
+use Rattle.model.specs.declared.receiving.Receiving.{Receiving}
 use Rattle.model.specs.declared.request.Request.{Request}
 use Rattle.model.specs.requests.Set.{after_set}
 use Rattle.model.specs.declared.request.Request.TheVariants.{Create as ToCreate, Write as ToWrite, Punch as ToPunch, FreeObject as ToFreeObject, Snapshot as ToSnapshot, Read as ToRead, Get as ToGet, PoolGet as ToPoolGet, List as ToList, Rollback as ToRollback, Destroy as ToDestroy, Slice as ToSlice, Sync as ToSync, Abandon as ToAbandon, OpenView as ToOpenView, CloseView as ToCloseView, Clone as ToClone, Promote as ToPromote, Hold as ToHold, Release as ToRelease, Holds as ToHolds, Bookmark as ToBookmark, WrittenSince as ToWrittenSince, WouldFree as ToWouldFree, Set as ToSet, Send as ToSend, Receive as ToReceive}
@@ -122,11 +123,11 @@ set_one q r s name limit amount v =
     (one_changed s.views s.now name (λ f. limited f limit amount) v.now.once v.now.closed (λ f t e h. h) (λ f t e h seen. h))
 
 -- a receive
-got : (q : Request) (r : Reply) (s : State) (m : Member) (reading : Option Sending) (force : Bool) (number : Key → ℕ) → IsViewing s
-    → refusal_of s (receive_rule m reading force) ≡ None → IsKeeping q r s (state_received s m reading force number)
-got q r s m None force number v none = state_stays q r s v
-got q r s m (Some sent) force number v none =
-    views_stay q r s (received s.now m sent force number) s.next_guid v (receive_asked s m sent force number v.now.once v.now.closed none)
+got : (q : Request) (r : Reply) (s : State) (m : Member) (reading : Option Sending) (mode : Receiving) (number : Key → ℕ) → IsViewing s
+    → refusal_of s (receive_rule m reading mode) ≡ None → IsKeeping q r s (state_received s m reading mode number)
+got q r s m None mode number v none = state_stays q r s v
+got q r s m (Some sent) mode number v none =
+    views_stay q r s (received s.now m sent mode number) s.next_guid v (receive_asked s m sent mode number v.now.once v.now.closed none)
 
 -- a rule that isn't refused
 followed : (q : Request) (r : Reply) (s new : State) (rule : Rule) → IsViewing s → ((c : Choice) → refusal_of s rule ≡ None → r ≡ rule.reply s → IsKeeping q r s (rule.after s c))
@@ -174,4 +175,4 @@ step_keeps q r s new v step = followed q r s new (rule_of q step.reading) v (by_
     by_request (ToWouldFree name first last) c none is = state_stays (ToWouldFree name first last) r s v
     by_request (ToSet name limit amount) c none is = set_one (ToSet name limit amount) r s name limit amount v
     by_request (ToSend target from) c none is = state_stays (ToSend target from) r s v
-    by_request (ToReceive snapshot bytes force) c none is = got (ToReceive snapshot bytes force) r s snapshot step.reading force c.number v none
+    by_request (ToReceive snapshot bytes mode) c none is = got (ToReceive snapshot bytes mode) r s snapshot step.reading mode c.number v none

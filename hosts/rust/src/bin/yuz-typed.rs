@@ -1,7 +1,8 @@
 //! The typed calls, each compared with what a line of the same pool tells.
 
 use std::error::Error as StdError;
-use yuzgont::{Error, Kind, Limit, Pool, PoolProperty};
+use std::io::{Read, Write};
+use yuzgont::{Error, Kind, Limit, Pool, PoolProperty, Receiving};
 
 type Outcome = Result<(), Box<dyn StdError>>;
 
@@ -13,6 +14,35 @@ fn told(pool: &mut Pool, line: &str) -> Result<String, Box<dyn StdError>> {
 fn expect(pool: &mut Pool, line: &str, wanted: &str) -> Outcome {
     assert_eq!(told(pool, line)?, wanted, "{line}");
     Ok(())
+}
+
+fn stream(pool: &mut Pool, name: &str, from: Option<&str>) -> Result<Vec<u8>, Box<dyn StdError>> {
+    let mut bytes = Vec::new();
+    pool.send(name, from)?.read_to_end(&mut bytes)?;
+    Ok(bytes)
+}
+
+fn received<'a>(pool: &'a mut Pool, name: &'a str, bytes: &[u8], mode: Receiving<'a>) -> Result<(), Error> {
+    let mut receiver = pool.receive(name, mode);
+    receiver.write_all(bytes).map_err(|_| Error::NoMemory)?;
+    receiver.finish()
+}
+
+/// A receive past a newer snapshot, as a clone, and in the place of a file system.
+fn receive_in_modes(pool: &mut Pool) -> Outcome {
+    let mut backup = Pool::create(2, 1000)?;
+    let full = stream(pool, "p/c@s", None)?;
+    let next = stream(pool, "p/a@t", Some("p/c@s"))?;
+    received(&mut backup, "p/a@s", &full, Receiving::Plain)?;
+    backup.snapshot("p/a@newer", false)?;
+    assert_eq!(received(&mut backup, "p/a@t", &next, Receiving::Back), Err(Error::WrongSource));
+    received(&mut backup, "p/a@t", &next, Receiving::Past)?;
+    expect(&mut backup, "list", "p p/a p/a@s p/a@t")?;
+    received(&mut backup, "p/b@t", &next, Receiving::Origin("p/a@s"))?;
+    expect(&mut backup, "get origin p/b", "p/a@s")?;
+    assert_eq!(received(&mut backup, "p/b@s", &full, Receiving::Replace), Err(Error::Exists));
+    received(&mut backup, "p@s", &full, Receiving::Replace)?;
+    expect(&mut backup, "list", "p p@s p/a p/a@s p/a@t p/b p/b@t")
 }
 
 fn main() -> Outcome {
@@ -58,6 +88,7 @@ fn main() -> Outcome {
     pool.write("p/a", 1, 0, &[99; 512])?;
     pool.rollback("p/a@t", false)?;
     expect(&mut pool, "read p/a 1 0", "hole")?;
+    receive_in_modes(&mut pool)?;
     println!("typed: each call tells what its line tells");
     Ok(())
 }

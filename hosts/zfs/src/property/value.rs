@@ -52,16 +52,23 @@ fn check_mount_point(value: &str) -> Result<(), Reason> {
     Ok(())
 }
 
-/// A share's options: words with commas between them, none of which begins or ends with a blank.
+/// A share's options, as libshare reads them: over NFS words with commas between them, of which each may be empty or have a value; over SMB none.
 fn check_share(property: Native, value: &str) -> Result<(), Reason> {
-    let is_word = |word: &str| !word.is_empty() && word.bytes().all(|byte| byte.is_ascii_graphic());
-    let is_fine = matches!(value, "on" | "off") || value.split(',').all(is_word) && value.contains(['=', ',']) || is_share_word(value);
+    let is_known = |word: &str| NFS_OPTIONS.contains(&word.split('=').next().unwrap_or_default());
+    let is_fine = match value {
+        "on" | "off" => true,
+        _ if property == Native::ShareSmb => false,
+        _ => value.split(',').filter(|word| !word.is_empty()).all(is_known),
+    };
     if is_fine { Ok(()) } else { Err(Reason::Text(format!("'{property}' cannot be set to invalid options"))) }
 }
 
-fn is_share_word(value: &str) -> bool {
-    matches!(value, "rw" | "ro" | "sec" | "sync" | "async" | "secure" | "insecure" | "root_squash" | "no_root_squash" | "crossmnt" | "no_subtree_check")
-}
+/// The options of a share over NFS.
+const NFS_OPTIONS: [&str; 34] = [
+    "ro", "rw", "sec", "anon", "root_mapping", "nosub", "insecure", "secure", "async", "sync", "no_wdelay", "wdelay", "nohide", "hide",
+    "crossmnt", "no_subtree_check", "subtree_check", "insecure_locks", "secure_locks", "no_auth_nlm", "auth_nlm", "no_acl", "mountpoint", "mp",
+    "fsuid", "refer", "replicas", "root_squash", "no_root_squash", "all_squash", "no_all_squash", "fsid", "anonuid", "anongid",
+];
 
 /// A number, or none for `none`.
 fn number(property: Native, value: &str) -> Result<Option<u64>, Reason> {
@@ -169,6 +176,20 @@ mod tests {
         assert!(checked(Native::MountPoint, "/a/b").is_ok());
         assert!(checked(Native::MountPoint, "legacy").is_ok());
         assert!(checked(Native::MountPoint, "a/b").is_err());
+    }
+
+    /// What `sa_validate_shareopts` of libzfs 2.1.11 takes.
+    #[test]
+    fn shares_have_known_options() {
+        let is_taken = |property, value| checked(property, value).is_ok();
+        for good in ["on", "off", "", ",", "rw", "rw,,ro", "rw=@10.0.0.0/8:host,no_root_squash", "anon=0,mp", "sec="] {
+            assert!(is_taken(Native::ShareNfs, good), "{good}");
+        }
+        for bad in ["ON", "foo", "foo=bar", "rw,foo", " rw", "rw ", "=rw", "none"] {
+            assert!(!is_taken(Native::ShareNfs, bad), "{bad}");
+        }
+        assert!(is_taken(Native::ShareSmb, "on") && is_taken(Native::ShareSmb, "off"));
+        assert!(!is_taken(Native::ShareSmb, "") && !is_taken(Native::ShareSmb, "rw,ro"));
     }
 
     #[test]

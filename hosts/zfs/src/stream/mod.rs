@@ -1,5 +1,6 @@
 //! Streams of the host: what `zfs send` writes and `zfs receive` reads.
 
+pub mod check;
 pub mod format;
 pub mod plan;
 pub mod receive;

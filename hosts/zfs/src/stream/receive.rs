@@ -3,15 +3,16 @@
 use super::format::{Begin, Listed, Step};
 use super::respell::with_source;
 use super::Partial;
-use crate::dataset::{Dataset, Kind, Values};
+use crate::dataset::Values;
 use crate::failure::{Action, Failure, Outcome, Reason, Trying};
 use crate::host::Host;
 use crate::layer::Refusal;
 use crate::name;
 use crate::property::{Kinds, Native, Property};
-use crate::setting::{check, Checked, Setting};
+use crate::setting::{check, Setting};
 use std::collections::HashMap;
 use std::rc::Rc;
+use yuzgont::Receiving;
 
 /// The objects of a file system of the layer.
 const OBJECTS: u32 = 256;
@@ -88,7 +89,7 @@ impl Step {
         Step { is_clone, ..self }
     }
 
-    fn wants_new(&self) -> bool {
+    pub fn wants_new(&self) -> bool {
         (self.from_guid == 0 || self.is_clone) && self.resumes_at.is_none()
     }
 
@@ -106,7 +107,10 @@ impl Host {
     /// Receives a step: all of it, or nothing. What standard error is told beside.
     pub fn receive_step(&mut self, manner: &Manner, arrived: &Arrived) -> Outcome<Vec<String>> {
         let base = name::base(&arrived.destination).to_owned();
-        if self.has_already(&arrived.destination, &arrived.step) {
+        if arrived.step.resumes_at.is_none() {
+            self.check_receive(manner, &arrived.destination, &arrived.step)?;
+        }
+        if self.check_begin(manner, &arrived.destination, &arrived.step)? {
             return Ok(Vec::new());
         }
         let bytes = self.whole_body(&base, arrived)?;
@@ -117,12 +121,6 @@ impl Host {
             false
         };
         self.take_up(manner, arrived, &base, is_new)
-    }
-
-    /// A replication may send again what is there.
-    pub fn has_already(&self, destination: &str, step: &Step) -> bool {
-        let is_same = self.tree.find(destination).is_some_and(|it| it.guid() == step.to_guid);
-        is_same && step.from_guid != 0
     }
 
     fn is_fresh(&self, base: &str) -> bool {
@@ -145,62 +143,10 @@ impl Host {
         Ok(Rc::new(bytes))
     }
 
-    /// Looks whether a stream may be received, before it is.
-    pub fn check_receive(&mut self, manner: &Manner, destination: &str, step: &Step) -> Outcome {
-        let base = name::base(destination);
-        let fail = |reason: String| Err(Failure::Cannot(step.action(), Reason::Text(reason)));
-        if let Some(file_system) = self.tree.get(base) {
-            if file_system.partial.is_some() && step.resumes_at.is_none() {
-                return fail(format!("destination {base} contains partially-complete state from \"zfs receive -s\"."));
-            }
-            return if step.wants_new() { self.check_overwrite(manner, base, step) } else { Ok(()) };
-        }
-        let above = name::parent(base);
-        if !step.wants_new() || above.is_none() {
-            return fail(format!("destination '{base}' does not exist"));
-        }
-        let above = above.unwrap_or_default();
-        match self.tree.get(above) {
-            None if manner.naming == Naming::AllButPool => Ok(()),
-            None => {
-                let text = format!("cannot open '{above}': dataset does not exist\n{}: unable to restore to destination", step.action());
-                Err(Failure::Told(text))
-            }
-            Some(parent) if parent.kind == Kind::Volume => fail(format!("parent '{above}' is not a filesystem")),
-            Some(_) => Ok(()),
-        }
-    }
-
-    /// A full stream over a file system that is there: it has to be forced, and the file system empty of snapshots.
-    fn check_overwrite(&mut self, manner: &Manner, base: &str, step: &Step) -> Outcome {
-        let fail = |reason: String| Err(Failure::Cannot(step.action(), Reason::Text(reason)));
-        if !manner.is_forced {
-            return fail(format!("destination '{base}' exists\nmust specify -F to overwrite it"));
-        }
-        if let Some(snapshot) = self.tree.snapshots(base).first() {
-            return fail(format!("destination has snapshots (eg. {})\nmust destroy them to overwrite it", snapshot.name));
-        }
-        if step.kind == Kind::Volume && !base.contains('/') {
-            return fail(format!("destination {base} is the root dataset\ncannot overwrite with a ZVOL"));
-        }
-        let children = self.tree.children(base);
-        if let Some(child) = children.first().filter(|_| step.kind == Kind::Volume || step.is_clone) {
-            return fail(format!("destination has children (eg. {child})\ncannot overwrite with a ZVOL"));
-        }
-        let path = self.tree.get(base).map(|it| it.path.clone()).unwrap_or_default();
-        if self.origin(&path).is_some() {
-            return fail(format!("destination '{base}' is a clone\nmust destroy it to overwrite it"));
-        }
-        self.check_unused(base, &manner.folder)
-    }
-
     /// Receives a stream in full, or from an origin. Whether the file system is new here too.
     fn receive_new(&mut self, manner: &Manner, arrived: &Arrived, base: &str, bytes: &[u8]) -> Outcome<bool> {
         let step = &arrived.step;
         let action = || step.action();
-        if step.resumes_at.is_none() {
-            self.check_receive(manner, &arrived.destination, step)?;
-        }
         let is_new = self.tree.get(base).is_none_or(|it| it.partial.is_some());
         if manner.naming == Naming::AllButPool {
             self.make_parents(base, manner.clock).trying(action)?;
@@ -213,7 +159,8 @@ impl Host {
         } else {
             let above = name::parent(base).unwrap_or(base);
             let path = self.tree.free_path(above).ok_or(Reason::NoParent).trying(action)?;
-            self.layer.receive(&format!("{path}@{component}"), false, bytes).map_err(|refusal| not_received(arrived, base, refusal))?;
+            let to = format!("{path}@{component}");
+            self.layer.receive(&to, Receiving::Plain, bytes).map_err(|refusal| not_received(arrived, base, refusal))?;
             let file_system = self.new_file_system(path, step.kind, manner.clock);
             self.tree.insert(base.to_owned(), file_system);
         }
@@ -225,14 +172,13 @@ impl Host {
         Ok(is_new)
     }
 
-    /// Receives a stream in full over a file system that is there: it is emptied, and what is below it stays.
+    /// Receives a stream in full over a file system that is there: its contents and bookmarks go, and what is below it stays.
     fn replace(&mut self, arrived: &Arrived, base: &str, component: &str, bytes: &[u8]) -> Outcome {
-        let action = || arrived.step.action();
-        for bookmark in self.tree.bookmarks(base) {
-            self.remove_bookmark(&bookmark).trying(action)?;
-        }
-        self.empty(base).trying(action)?;
-        self.receive_onto_now(arrived, base, component, bytes)
+        let path = self.tree.get(base).map(|it| it.path.clone()).unwrap_or_default();
+        let to = format!("{path}@{component}");
+        self.layer.receive(&to, Receiving::Replace, bytes).map_err(|refusal| not_received(arrived, base, refusal))?;
+        self.follow_layer();
+        Ok(())
     }
 
     fn empty(&mut self, base: &str) -> Result<(), Refusal> {
@@ -248,30 +194,33 @@ impl Host {
         self.layer.order(&format!("snapshot {now}")).trying(action)?;
         let guid = self.layer.get(&now, yuzgont::Property::Guid).trying(action)?;
         let bytes = with_source(bytes, guid).map_err(|refusal| not_received(arrived, base, refusal))?;
-        self.layer.receive(&format!("{path}@{component}"), false, &bytes).map_err(|refusal| not_received(arrived, base, refusal))?;
+        let to = format!("{path}@{component}");
+        self.layer.receive(&to, Receiving::Plain, &bytes).map_err(|refusal| not_received(arrived, base, refusal))?;
         self.layer.order(&format!("destroy {now}")).trying(action)
     }
 
-    /// Receives onto a clone of the origin, which is here by its guid or was named. A stream in full starts from an emptied clone.
+    /// Receives as a clone of the origin, which is here by its guid or was named. A stream in full starts from an emptied clone.
     fn receive_clone(&mut self, manner: &Manner, arrived: &Arrived, base: &str, component: &str, bytes: &[u8]) -> Outcome {
         let step = &arrived.step;
-        let missing = || Failure::Cannot(Action::Receive, Reason::Text(format!("local origin for clone {} does not exist", arrived.destination)));
-        let origin = match &manner.origin {
-            Some(named) => self.tree.find(named).filter(|it| it.snapshot().is_some()).ok_or(Reason::NoDataset).trying(|| step.action())?,
-            None => self.by_guid(base, step.from_guid).ok_or_else(missing)?,
-        };
+        let origin = self.origin_of(manner, &arrived.destination, step)?;
         if step.from_guid != 0 && step.from_guid != origin.guid() {
             return Err(not_received(arrived, base, Refusal::WrongSource));
         }
+        // What a cut receive has left makes room for the clone.
         if let Some(old) = self.tree.get(base).map(|it| it.path.clone()) {
             self.layer.order(&format!("destroy {old}")).trying(|| step.action())?;
             self.tree.remove(base);
         }
-        self.make_clone(&origin.name, base, manner.clock).trying(|| step.action())?;
         if step.from_guid == 0 {
+            self.make_clone(&origin.name, base, manner.clock).trying(|| step.action())?;
             self.empty(base).trying(|| step.action())?;
+            return self.receive_onto_now(arrived, base, component, bytes);
         }
-        self.receive_onto_now(arrived, base, component, bytes)
+        self.clone_by(&origin.name, base, manner.clock, |layer, origin, path| {
+            let to = format!("{path}@{component}");
+            layer.receive(&to, Receiving::Origin(origin), bytes).map_err(|refusal| reason_of(base, refusal))
+        })
+        .trying(|| step.action())
     }
 
     fn add_received(&mut self, arrived: &Arrived, base: &str, component: String) -> Result<(), Refusal> {
@@ -279,50 +228,29 @@ impl Host {
         self.add_snapshot(base, name, component, arrived.step.creation, Default::default())
     }
 
-    /// Receives an increment onto a file system.
+    /// Receives an increment onto a file system. Snapshots newer than its source go by force, unless one is held or has a clone, or are such that
+    /// have changed nothing.
     fn receive_onto(&mut self, manner: &Manner, arrived: &Arrived, base: &str, bytes: &[u8]) -> Outcome {
         let step = &arrived.step;
-        let action = || step.action();
-        self.check_receive(manner, &arrived.destination, step)?;
-        let is_taken = self.tree.has(&arrived.destination);
-        if is_taken && !manner.is_forced {
-            return Err(exists(&arrived.destination));
-        }
         let snapshots = self.tree.snapshots(base);
-        let mismatch = || Failure::Cannot(action(), Reason::Text(format!("most recent snapshot of {base} does not\nmatch incremental source")));
-        let source = snapshots.iter().find(|it| it.guid() == step.from_guid).ok_or_else(mismatch)?;
-        if snapshots.last().is_some_and(|last| last.name != source.name) {
-            if !manner.is_forced {
-                return Err(mismatch());
-            }
-            self.go_back_to(source, &arrived.destination, step)?;
-        }
-        if self.tree.has(&arrived.destination) {
-            return Err(exists(&arrived.destination));
-        }
+        let wrong = |refusal| match refusal {
+            Refusal::HasClones => exists(&arrived.destination),
+            other => not_received(arrived, base, other),
+        };
+        let source = snapshots.iter().find(|it| it.guid() == step.from_guid).ok_or_else(|| wrong(Refusal::WrongSource))?;
+        let newest = snapshots.last().filter(|newest| newest.name != source.name && !manner.is_forced);
+        let respelled = newest.map(|newest| with_source(bytes, newest.guid())).transpose().map_err(wrong)?;
         let path = self.tree.get(base).map(|it| it.path.clone()).unwrap_or_default();
         let component = self.tree.next_component();
-        let force = manner.is_forced;
-        self.layer.receive(&format!("{path}@{component}"), force, bytes).map_err(|refusal| not_received(arrived, base, refusal))?;
-        if force {
+        let mode = if manner.is_forced { Receiving::Past } else { Receiving::Plain };
+        self.layer.receive(&format!("{path}@{component}"), mode, respelled.as_deref().unwrap_or(bytes)).map_err(wrong)?;
+        if manner.is_forced {
             self.follow_layer();
         }
         if let Some(file_system) = self.tree.edit(base) {
             file_system.partial = None;
         }
-        self.add_received(arrived, base, component).trying(action)
-    }
-
-    /// A forced receive lets newer snapshots go, unless they are held or have clones.
-    fn go_back_to(&mut self, source: &Dataset, destination: &str, step: &Step) -> Outcome {
-        match self.layer.order(&format!("rollback -r {}", source.path)) {
-            Ok(()) => {
-                self.follow_layer();
-                Ok(())
-            }
-            Err(Refusal::HasClones) => Err(exists(destination)),
-            Err(refusal) => Err(Failure::Cannot(step.action(), refusal.into())),
-        }
+        self.add_received(arrived, base, component).trying(|| step.action())
     }
 
     /// Takes up what came beside the blocks: properties, volume sizes, holds; and what the command says of properties.
@@ -340,14 +268,16 @@ impl Host {
         if let Some(properties) = &step.properties {
             told.extend(self.receive_properties(manner, base, properties));
         }
+        let affected = self.affected(base, &Property::Native(Native::MountPoint)).filter(|_| !is_new);
         self.override_properties(manner, arrived, base)?;
+        told.extend(affected.iter().flat_map(|it| self.settle_mounts(it)));
         if !manner.skips_holds {
             for tag in &step.holds {
                 self.hold(&arrived.destination, tag, manner.clock).trying(|| Action::Hold(arrived.destination.clone()))?;
             }
         }
         if is_new && !manner.is_unmounted {
-            self.mount(base);
+            told.extend(self.mount_new(base).err());
         }
         Ok(told)
     }
@@ -502,49 +432,28 @@ impl Host {
 }
 
 /// The snapshot that a stream would make is there.
-fn exists(destination: &str) -> Failure {
+pub fn exists(destination: &str) -> Failure {
     Failure::Cannot(Action::Restore(destination.to_owned()), Reason::Text("destination already exists".into()))
 }
 
 fn not_received(arrived: &Arrived, base: &str, refusal: Refusal) -> Failure {
-    let reason = match refusal {
+    Failure::Cannot(arrived.step.action(), reason_of(base, refusal))
+}
+
+/// What a refusal of a file system's stream is called.
+pub fn reason_of(base: &str, refusal: Refusal) -> Reason {
+    match refusal {
         Refusal::BadStream => Reason::Text("checksum mismatch".into()),
         Refusal::Quota | Refusal::RefQuota => Reason::Text(format!("destination {base} space quota exceeded.")),
         Refusal::WrongSource => Reason::Text(format!("most recent snapshot of {base} does not\nmatch incremental source")),
         Refusal::Modified => Reason::Text(format!("destination {base} has been modified\nsince most recent snapshot")),
         other => other.into(),
-    };
-    Failure::Cannot(arrived.step.action(), reason)
+    }
 }
 
 /// Whether a property of that name is inherited: one of users always is.
 fn is_inherited(name: &str) -> bool {
     Native::named(name).is_none_or(Native::is_inherited)
-}
-
-/// The properties of `-o` and `-x` are known, and such that a receive may set. An origin is no property here.
-pub fn check_overrides(settings: &[Setting], excluded: &[String]) -> Result<(), Reason> {
-    for name in settings.iter().map(|setting| &setting.property).chain(excluded).filter(|name| *name != Native::Origin.name()) {
-        let property = Property::named(name).ok_or_else(|| Reason::NoProperty(name.clone()))?;
-        let is_fixed = |native: Native| native.is_read_only() || matches!(native, Native::VolSize | Native::Version);
-        if matches!(property, Property::Native(native) if is_fixed(native)) {
-            return Err(Reason::NoProperty(name.clone()));
-        }
-    }
-    Ok(())
-}
-
-/// The values of `-o` are such that the properties take.
-pub fn check_values(settings: &[Setting]) -> Result<(), Reason> {
-    settings.iter().try_for_each(|setting| check_value(setting).map(drop))
-}
-
-/// A value has to fit where it fits any kind.
-fn check_value(setting: &Setting) -> Result<Checked, Reason> {
-    match check(setting, Kind::FileSystem, true) {
-        Err(Reason::NotOfKind(_)) => check(setting, Kind::Volume, true),
-        other => other,
-    }
 }
 
 #[cfg(test)]
@@ -615,15 +524,33 @@ mod tests {
         let forced = Manner { is_forced: true, ..manner.clone() };
         let full = arrived(&mut host, "tank/a@1", None, "tank/b@1");
         receive(&mut host, &manner, &full).unwrap();
+        let path = host.open("tank/b").unwrap().path;
+        host.layer.write(&path, 7, 7, &[7]).unwrap();
         snapshot(&mut host, "tank/b@own");
         let increment = arrived(&mut host, "tank/a@2", Some("tank/a@1"), "tank/b@2");
-        assert!(receive(&mut host, &manner, &increment).unwrap_err().contains("does not\nmatch incremental source"));
+        assert!(receive(&mut host, &manner, &increment).unwrap_err().contains("has been modified\nsince most recent snapshot"));
         host.change(|host| host.hold("tank/b@own", "t", 1).map_err(|_| Failure::Silent)).unwrap();
         assert!(receive(&mut host, &forced, &increment).unwrap_err().contains("dataset is busy"));
         assert!(host.tree.has("tank/b@own"));
         host.change(|host| host.release("tank/b@own", "t").map_err(|_| Failure::Silent)).unwrap();
         receive(&mut host, &forced, &increment).unwrap();
         assert!(host.tree.has("tank/b@2") && !host.tree.has("tank/b@own"));
+    }
+
+    #[test]
+    fn an_increment_goes_onto_a_newer_snapshot_that_has_changed_nothing() {
+        let mut host = prepared();
+        let manner = Manner { target: "tank/b".into(), ..Manner::default() };
+        let full = arrived(&mut host, "tank/a@1", None, "tank/b@1");
+        receive(&mut host, &manner, &full).unwrap();
+        snapshot(&mut host, "tank/b@own");
+        let increment = arrived(&mut host, "tank/a@2", Some("tank/a@1"), "tank/b@2");
+        receive(&mut host, &manner, &increment).unwrap();
+        let path = host.open("tank/b").unwrap().path;
+        assert_eq!(host.layer.read(&path, 0, 0).unwrap().unwrap()[0], 2);
+        let names: Vec<String> = host.tree.snapshots("tank/b").iter().map(|it| it.name.clone()).collect();
+        assert_eq!(names, ["tank/b@1", "tank/b@own", "tank/b@2"]);
+        assert_eq!(host.open("tank/b@2").unwrap().guid(), host.open("tank/a@2").unwrap().guid());
     }
 
     #[test]
@@ -691,7 +618,9 @@ mod tests {
         let manner = Manner { target: "tank/d".into(), origin: Some("tank/a@1".into()), ..Manner::default() };
         full.step = full.step.onto(manner.origin.as_deref());
         let none = Manner { origin: Some("tank/a@none".into()), ..manner.clone() };
-        assert_eq!(receive(&mut host, &none, &full).unwrap_err(), "cannot receive new filesystem stream: dataset does not exist\n");
+        assert_eq!(receive(&mut host, &none, &full).unwrap_err(), "cannot receive new filesystem stream: Invalid cross-device link\n");
+        let no_snapshot = Manner { origin: Some("tank/a".into()), ..manner.clone() };
+        assert_eq!(receive(&mut host, &no_snapshot, &full).unwrap_err(), "cannot receive new filesystem stream: invalid backup stream\n");
         receive(&mut host, &manner, &full).unwrap();
         let copy = host.open("tank/d").unwrap().path;
         assert_eq!(host.origin(&copy).as_deref(), Some("tank/a@1"));
@@ -711,7 +640,9 @@ mod tests {
         let full = arrived(&mut host, "tank/a@1", None, "tank/b@1");
         let half = full.bytes.len() / 2;
         host.change(|host| host.keep_partial(&manner, "tank/b@1", &full.step, full.bytes[..half].to_vec())).unwrap();
-        assert!(receive(&mut host, &manner, &full).unwrap_err().contains("contains partially-complete state"));
+        assert!(receive(&mut host, &manner, &full).unwrap_err().contains("must specify -F to overwrite it"));
+        let forced = Manner { is_forced: true, ..manner.clone() };
+        assert!(receive(&mut host, &forced, &full).unwrap_err().contains("contains partially-complete state"));
         let rest = |from: usize| Arrived {
             step: Step { resumes_at: Some(from as u64), ..full.step.clone() },
             bytes: Rc::new(full.bytes[from..].to_vec()),

@@ -9,6 +9,9 @@ use crate::layer::Refusal;
 const MAGIC: &[u8; 8] = b"ZDSTRM01";
 const DIGEST: usize = 32;
 
+/// The bytes of a stream without a record, which is one between equal contents: the text, two guids, a byte for the end, the digest.
+pub const EMPTY: u64 = 57;
+
 /// The bytes of a block of SHA-256.
 const BLOCK: usize = 64;
 

@@ -1,10 +1,12 @@
 //! `zfs clone` and `zfs promote`.
 
+use super::create::not_mounted;
 use super::walk;
 use crate::call::Call;
 use crate::dataset::Kind;
 use crate::failure::{Action, Failure, Outcome, Reason, Trying};
 use crate::host::Host;
+use crate::layer::Layer;
 use crate::name;
 use crate::property::Kinds;
 use crate::setting::{check, settings, Setting};
@@ -35,10 +37,10 @@ pub fn clone(call: &mut Call, words: &[String]) -> Outcome {
         return Err(Failure::Cannot(action(), reason));
     }
     let (has_parents, clock) = (options.has('p'), call.clock());
-    call.change(&pool, move |host| {
+    let mounted = call.change(&pool, move |host| {
         let action = || Action::Create(target.clone());
         if has_parents && host.tree.has(&target) {
-            return Ok(());
+            return Ok(Ok(()));
         }
         if has_parents {
             host.make_parents(&target, clock).trying(action)?;
@@ -46,26 +48,37 @@ pub fn clone(call: &mut Call, words: &[String]) -> Outcome {
         make(host, &source, &target, clock, &settings).trying(action)
     })?;
     call.log(&pool);
-    Ok(())
+    mounted.map_err(|text| not_mounted(&text))
 }
 
-fn make(host: &mut Host, source: &str, target: &str, clock: i64, settings: &[Setting]) -> Result<(), Reason> {
+/// Makes a clone, and says why it isn't mounted where that can't be.
+fn make(host: &mut Host, source: &str, target: &str, clock: i64, settings: &[Setting]) -> Result<Result<(), String>, Reason> {
     let kind = host.tree.get(name::base(source)).map_or(Kind::FileSystem, |it| it.kind);
     let checked = settings.iter().map(|setting| check(setting, kind, false)).collect::<Result<Vec<_>, _>>()?;
     host.make_clone(source, target, clock)?;
     checked.iter().try_for_each(|setting| host.set(target, setting))?;
-    host.mount(target);
-    Ok(())
+    Ok(host.mount_new(target))
 }
 
 impl Host {
     /// Makes a clone of a snapshot.
     pub fn make_clone(&mut self, source: &str, target: &str, clock: i64) -> Result<(), Reason> {
+        self.clone_by(source, target, clock, |layer, origin, path| Ok(layer.order(&format!("clone {origin} {path}"))?))
+    }
+
+    /// Makes a clone by what the layer is asked to do of the origin's name and the new one there.
+    pub fn clone_by(
+        &mut self,
+        source: &str,
+        target: &str,
+        clock: i64,
+        make: impl FnOnce(&mut Layer, &str, &str) -> Result<(), Reason>,
+    ) -> Result<(), Reason> {
         let snapshot = self.tree.find(source).ok_or(Reason::NoDataset)?;
         let above = name::parent(target).ok_or_else(|| Reason::Text("missing dataset name".into()))?;
         self.check_place(target, above)?;
         let path = self.tree.free_path(above).ok_or(Reason::NoParent)?;
-        self.layer.order(&format!("clone {} {path}", snapshot.path))?;
+        make(&mut self.layer, &snapshot.path, &path)?;
         let mut clone = self.new_file_system(path, snapshot.base.kind, clock);
         for property in COPIED {
             clone.local.extend(snapshot.base.local.get(property).map(|value| (property.to_owned(), value.clone())));

@@ -34,14 +34,32 @@ pub fn run(call: &mut Call, words: &[String]) -> Outcome {
         None => return Err(create.no_pool()),
     };
     let (made, clock) = (create.clone(), call.clock());
-    let is_there = call.change(&pool, move |host| made.make(host, clock))?;
-    if is_verbose && !is_there {
+    let made = call.change(&pool, move |host| made.make(host, clock))?;
+    if is_verbose && made != Made::Before {
         create.tell(call, options.has('P'));
     }
     if !create.is_dry {
         call.log(&pool);
     }
-    Ok(())
+    match made {
+        Made::Unmounted(text) => Err(not_mounted(&text)),
+        _ => Ok(()),
+    }
+}
+
+/// A file system that was made, and why it isn't mounted.
+pub fn not_mounted(text: &str) -> Failure {
+    Failure::Told(format!("{text}\nfilesystem successfully created, but not mounted"))
+}
+
+/// What a create has come to.
+#[derive(PartialEq, Eq)]
+enum Made {
+    /// It was there already, which `-p` takes as done.
+    Before,
+    Now,
+    /// It is there, and can't be mounted.
+    Unmounted(String),
 }
 
 /// Reads the options. Each is judged as it comes, before what is wrong behind it.
@@ -126,12 +144,12 @@ impl Create {
         Ok(())
     }
 
-    /// Makes it, or with `-n` sees that it could be made. Whether it is there already, which `-p` takes as done.
-    fn make(&self, host: &mut Host, clock: i64) -> Outcome<bool> {
+    /// Makes it, or with `-n` sees that it could be made.
+    fn make(&self, host: &mut Host, clock: i64) -> Outcome<Made> {
         let action = || if self.is_dry { Action::Verify(self.name.clone()) } else { Action::Create(self.name.clone()) };
         let create = || Action::Create(self.name.clone());
         if self.has_parents && host.tree.get(&self.name).is_some_and(|it| it.kind == self.kind) {
-            return Ok(true);
+            return Ok(Made::Before);
         }
         if self.kind == Kind::Volume {
             check_new(&self.settings, self.kind).trying(action)?;
@@ -145,17 +163,15 @@ impl Create {
         }
         let checked = check_new(&self.settings, self.kind).trying(action)?;
         if self.is_dry {
-            return Ok(false);
+            return Ok(Made::Now);
         }
         self.check_volume(&checked).trying(create)?;
         host.make_file_system(&self.name, self.kind, clock).trying(create)?;
         for setting in &checked {
             host.set_new(&self.name, setting).map_err(out_of_space).trying(create)?;
         }
-        if !self.is_unmounted {
-            host.mount(&self.name);
-        }
-        Ok(false)
+        let mounted = if self.is_unmounted { Ok(()) } else { host.mount_new(&self.name) };
+        Ok(mounted.map_or_else(Made::Unmounted, |()| Made::Now))
     }
 
     fn check_volume(&self, checked: &[Checked]) -> Result<(), Reason> {

@@ -27,7 +27,7 @@ pub fn mount(call: &mut Call, words: &[String]) -> Outcome {
         if !options.operands.is_empty() {
             return Err(Failure::Usage(MOUNT, "too many arguments".into()));
         }
-        return all_pools(call).iter().try_for_each(|pool| pool.run(Host::mount_all));
+        return mount_all(call);
     }
     let name = match &options.operands[..] {
         [] if !options.found.is_empty() => return Err(Failure::Usage(MOUNT, "missing filesystem argument".into())),
@@ -38,6 +38,14 @@ pub fn mount(call: &mut Call, words: &[String]) -> Outcome {
     let pool = walk::open(call, &name, Kinds::FILE_SYSTEM)?;
     let given = options.argument('o').unwrap_or_default().to_owned();
     pool.run(move |host| mount_one(host, &name, &given))?
+}
+
+fn mount_all(call: &Call) -> Outcome {
+    let mut told = Vec::new();
+    for pool in all_pools(call) {
+        told.extend(pool.run(Host::mount_all)?);
+    }
+    if told.is_empty() { Ok(()) } else { Err(Failure::Several(told.into_iter().map(Failure::Told).collect())) }
 }
 
 /// Options of a mount are properties for as long as it is mounted.
@@ -60,6 +68,7 @@ fn mount_one(host: &mut Host, name: &str, options: &str) -> Outcome {
     if base.is_mounted && !is_remount {
         return fail("filesystem already mounted");
     }
+    host.mount(name).map_err(Failure::Told)?;
     host.set_mounted(name, true, options);
     Ok(())
 }

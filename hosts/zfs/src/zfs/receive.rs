@@ -3,13 +3,15 @@
 use super::walk;
 use crate::call::Call;
 use crate::failure::{Action, Failure, Outcome, Reason, Trying};
+use crate::host::Host;
 use crate::name;
 use crate::options::Options;
 use crate::property::{Kinds, Property};
 use crate::setting::{settings, Setting};
 use crate::size;
 use crate::stream::format::{read_body, read_head, read_magic, Begin, Broken, Head, Step};
-use crate::stream::receive::{check_overrides, check_values, destination, Arrived, Manner, Naming};
+use crate::stream::check::{check_overrides, check_values};
+use crate::stream::receive::{destination, Arrived, Manner, Naming};
 use crate::usage::{Usage, ZfsCommand};
 use crate::world::PoolThread;
 use std::iter;
@@ -98,6 +100,9 @@ fn receive(call: &mut Call, manner: &Manner) -> Outcome {
             return Err(Failure::Cannot(Action::Receive, Reason::Text(format!("specified fs ({}) does not exist", manner.target))));
         }
     }
+    if let Some(origin) = manner.origin.as_ref().filter(|origin| walk::open(call, origin, Kinds::FVS).is_err()) {
+        return Err(Failure::Cannot(Action::Receive, Reason::Text(format!("specified origin fs ({origin}) does not exist"))));
+    }
     read_magic(call).map_err(|broken| unreadable(&broken))?;
     let begin = match read_head(call).map_err(|broken| unreadable(&broken))? {
         (Head::Begin(begin), 0) => begin,
@@ -147,17 +152,13 @@ fn receive_step(call: &mut Call, pool: &Arc<PoolThread>, manner: &Manner, step: 
         Err(Broken::Cut) if !has_already => return Err(cut(call, pool, manner, &goal.name, &step, bytes)),
         Err(broken) => return Err(unreadable(&broken)),
     };
-    if has_already || manner.is_dry {
+    if manner.is_dry {
         return Ok(next);
     }
-    let count = bytes.len() as u64;
-    let manner_here = manner.clone();
-    let told = call.change(pool, move |host| {
-        let Goal { name: destination, is_top, is_replication } = goal;
-        let arrived = Arrived { destination, step, bytes: Rc::new(bytes), is_top, is_replication };
-        host.receive_step(&manner_here, &arrived)
-    })?;
-    told.iter().for_each(|line| call.output.error(line));
+    let count = if has_already { 0 } else { bytes.len() as u64 };
+    if !has_already {
+        take(call, pool, manner, step, bytes, goal)?;
+    }
     if manner.is_verbose {
         let seconds = begin.elapsed().as_secs().max(1);
         call.output.line(&format!("received {} stream in {seconds} seconds ({}/sec)", size::bytes(count), size::bytes(count / seconds)));
@@ -166,29 +167,52 @@ fn receive_step(call: &mut Call, pool: &Arc<PoolThread>, manner: &Manner, step: 
     Ok(next)
 }
 
+/// Receives a step that has come whole.
+fn take(call: &mut Call, pool: &Arc<PoolThread>, manner: &Manner, step: Step, bytes: Vec<u8>, goal: Goal) -> Outcome {
+    let manner_here = manner.clone();
+    let told = call.change(pool, move |host| {
+        let Goal { name: destination, is_top, is_replication } = goal;
+        let arrived = Arrived { destination, step, bytes: Rc::new(bytes), is_top, is_replication };
+        host.receive_step(&manner_here, &arrived)
+    })?;
+    told.iter().for_each(|line| call.output.error(line));
+    Ok(())
+}
+
 /// Looks whether a step may be received, and tells of it with `-v`. Whether its snapshot is there already, which is passed over.
 fn announce(call: &mut Call, pool: &Arc<PoolThread>, manner: &Manner, step: &Step, goal: &Goal) -> Outcome<bool> {
-    let (asked, sent, name) = (manner.clone(), step.clone(), goal.name.clone());
-    let (has_already, origin) = pool.run(move |host| {
-        let origin = host.by_guid(name::base(&name), sent.from_guid).filter(|_| sent.is_clone && asked.origin.is_none()).map(|it| it.name);
-        if host.has_already(&name, &sent) {
-            return Ok((true, origin));
-        }
-        host.check_receive(&asked, &name, &sent).map(|()| (false, origin))
-    })??;
-    if !manner.is_verbose {
-        return Ok(has_already);
+    let look = |look: fn(&mut Host, &Manner, &str, &Step) -> Outcome<bool>| {
+        let (asked, sent, name) = (manner.clone(), step.clone(), goal.name.clone());
+        pool.run(move |host| look(host, &asked, &name, &sent))?
+    };
+    if manner.is_verbose {
+        tell_origin(call, pool, manner, step, goal)?;
     }
-    manner.origin.iter().for_each(|origin| call.output.line(&format!("using provided clone origin {origin}")));
-    origin.iter().for_each(|origin| call.output.line(&format!("found clone origin {origin}")));
-    let deed = if manner.is_dry { "would receive" } else { "receiving" };
-    let kind = if step.from_guid == 0 { "full" } else { "incremental" };
-    call.output.line(&format!("{deed} {kind} stream of {} into {}", step.to_name, goal.name));
-    if has_already {
+    look(|host, manner, name, step| host.check_receive(manner, name, step).map(|()| false))?;
+    if manner.is_verbose {
+        let deed = if manner.is_dry { "would receive" } else { "receiving" };
+        let kind = if step.from_guid == 0 { "full" } else { "incremental" };
+        call.output.line(&format!("{deed} {kind} stream of {} into {}", step.to_name, goal.name));
+        call.flush();
+    }
+    let has_already = !manner.is_dry && look(Host::check_begin)?;
+    if has_already && manner.is_verbose {
         call.output.line(&format!("snap {} already exists; ignoring", goal.name));
+        call.flush();
     }
-    call.flush();
     Ok(has_already)
+}
+
+/// Tells the origin of a clone.
+fn tell_origin(call: &mut Call, pool: &Arc<PoolThread>, manner: &Manner, step: &Step, goal: &Goal) -> Outcome {
+    if let Some(origin) = &manner.origin {
+        call.output.line(&format!("using provided clone origin {origin}"));
+    } else if step.is_clone {
+        let (base, guid) = (name::base(&goal.name).to_owned(), step.from_guid);
+        let origin = pool.run(move |host| host.by_guid(&base, guid).map(|it| it.name))?;
+        origin.iter().for_each(|origin| call.output.line(&format!("found clone origin {origin}")));
+    }
+    Ok(())
 }
 
 /// A stream that ended in a step: with `-s` what came is kept.

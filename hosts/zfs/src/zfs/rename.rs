@@ -38,9 +38,9 @@ pub fn run(call: &mut Call, words: &[String]) -> Outcome {
     if is_valid && call.world.pool_of(&target).is_none() && target.contains('/') {
         return Err(Failure::Cannot(Action::Create(target.clone()), Reason::NoPool(name::pool(&target).to_owned())));
     }
-    call.change(&pool, move |host| {
+    let told = call.change(&pool, move |host| {
         if source.contains('@') {
-            return rename_snapshots(host, &source, &target, is_recursive);
+            return rename_snapshots(host, &source, &target, is_recursive).map(|()| Vec::new());
         }
         if has_parents && name::check(&target, Kinds::FV, true).is_ok() && name::pool(&target) == host.name {
             host.make_parents(&target, clock).trying(|| Action::Create(target.clone()))?;
@@ -49,7 +49,7 @@ pub fn run(call: &mut Call, words: &[String]) -> Outcome {
         rename_file_system(host, &source, &target, Some(folder.as_str()).filter(|_| !is_unmounted))
     })?;
     call.log(&pool);
-    Ok(())
+    if told.is_empty() { Ok(()) } else { Err(Failure::Several(told.into_iter().map(Failure::Told).collect())) }
 }
 
 fn rename_snapshots(host: &mut Host, source: &str, target: &str, is_recursive: bool) -> Outcome {
@@ -87,10 +87,10 @@ fn rename_snapshots(host: &mut Host, source: &str, target: &str, is_recursive: b
     Ok(())
 }
 
-/// Where the client stands counts if what is mounted is to move.
-fn rename_file_system(host: &mut Host, source: &str, target: &str, folder: Option<&str>) -> Outcome {
+/// Where the client stands counts if what is mounted is to move. What is told of file systems that can't be mounted in their new places.
+fn rename_file_system(host: &mut Host, source: &str, target: &str, folder: Option<&str>) -> Outcome<Vec<String>> {
     if source == target {
-        return Ok(());
+        return Ok(Vec::new());
     }
     check_target(host, source, target)?;
     if let Some(folder) = folder {
@@ -118,14 +118,20 @@ fn rename_file_system(host: &mut Host, source: &str, target: &str, folder: Optio
     } else {
         host.move_file_system(source, target).trying(action)?;
     }
-    for (old, place) in mounted {
-        let name = format!("{target}{}", &old[source.len()..]);
-        match folder {
-            Some(_) => host.mount(&name),
-            None => host.leave_mounted(&name, place),
+    let renamed = mounted.into_iter().map(|(old, place)| (format!("{target}{}", &old[source.len()..]), place));
+    Ok(mounted_again(host, renamed, folder.is_some()))
+}
+
+/// What was mounted is mounted in its new place, or left in the old one. What is told of those that can't be mounted.
+fn mounted_again(host: &mut Host, renamed: impl Iterator<Item = (String, String)>, moves: bool) -> Vec<String> {
+    let mut told = Vec::new();
+    for (name, place) in renamed {
+        match moves {
+            true => told.extend(host.mount(&name).err()),
+            false => host.leave_mounted(&name, place),
         }
     }
-    Ok(())
+    told
 }
 
 /// How long the names of a file system and of its snapshots are.
@@ -162,7 +168,7 @@ mod tests {
     use crate::host::tests::{host, make, snapshot};
 
     fn rename(host: &mut Host, source: &str, target: &str) -> Result<(), String> {
-        host.change(|host| rename_file_system(host, source, target, Some("/"))).map_err(|failure| failure.to_string())
+        host.change(|host| rename_file_system(host, source, target, Some("/"))).map(drop).map_err(|failure| failure.to_string())
     }
 
     #[test]

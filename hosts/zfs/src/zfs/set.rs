@@ -4,9 +4,11 @@ use super::walk;
 use crate::call::Call;
 use crate::failure::{Action, Failure, Outcome, Reason, Trying};
 use crate::host::Host;
+use crate::mounting::Affected;
+use crate::name;
 use crate::property::{Kinds, Native, Property};
 use crate::protocol::Status;
-use crate::setting::{applies, check, settings};
+use crate::setting::{applies, check, settings, Checked, Setting};
 use crate::usage::{Usage, ZfsCommand};
 use crate::world::PoolThread;
 use std::sync::Arc;
@@ -42,17 +44,25 @@ fn found_by_pool(call: &Call, names: &[String], kinds: Kinds) -> (Groups, Vec<Fa
     (groups, missing)
 }
 
-/// Does something with each operand, or nothing: then it is told of each what is wrong with it.
-fn with_each(call: &Call, names: &[String], each: impl Fn(&mut Host, &str) -> Outcome + Clone + Send + 'static) -> Outcome {
-    let (groups, mut wrong) = found_by_pool(call, names, Kinds::FVS);
-    for (pool, names) in groups {
+/// Does something with each operand, or nothing: then it is told of each what is wrong with it. What is done may have something that is told of it.
+fn with_each(call: &Call, names: &[String], each: impl Fn(&mut Host, &str) -> Outcome<Vec<String>> + Clone + Send + 'static) -> Outcome {
+    let (mut groups, mut wrong) = found_by_pool(call, names, Kinds::FVS);
+    groups.sort_by(|(one, _), (other, _)| one.name.cmp(&other.name));
+    for (pool, mut names) in groups {
         let (each, is_wrong) = (each.clone(), !wrong.is_empty());
         let done = call.change(&pool, move |host| {
-            let failures: Vec<Failure> = names.iter().filter_map(|name| each(host, name).err()).collect();
-            if failures.is_empty() && !is_wrong { Ok(()) } else { Err(Failure::Several(failures)) }
+            // Each once, in the order of names and of snapshots' times, whatever the order of the operands.
+            names.sort_by_cached_key(|name| (name::base(name).to_owned(), name.contains('@'), host.tree.find(name).map(|it| it.create_txg())));
+            names.dedup();
+            let (mut told, mut failures) = (Vec::new(), Vec::new());
+            names.iter().for_each(|name| each(host, name).map_or_else(|failure| failures.push(failure), |lines| told.extend(lines)));
+            if failures.is_empty() && !is_wrong { Ok(told) } else { Err(Failure::Several(failures)) }
         });
         match done {
-            Ok(()) => call.log(&pool),
+            Ok(told) => {
+                call.log(&pool);
+                wrong.extend(told.into_iter().map(Failure::Told));
+            }
             Err(Failure::Several(failures)) => wrong.extend(failures),
             Err(other) => wrong.push(other),
         }
@@ -83,12 +93,23 @@ pub fn set(call: &mut Call, words: &[String]) -> Outcome {
         Failure::Told(text) => Failure::ToldWith(Status::Other(255), text),
         other => other,
     })?;
-    with_each(call, names, move |host, name| {
-        let action = || Action::SetProperty(name.to_owned());
-        let kind = host.open(name)?.kind();
-        let checked = settings.iter().map(|setting| check(setting, kind, false)).collect::<Result<Vec<_>, _>>().trying(action)?;
-        checked.iter().try_for_each(|setting| host.set(name, setting)).trying(action)
-    })
+    let folder = call.request.folder.clone();
+    with_each(call, names, move |host, name| set_one(host, name, &settings, &folder))
+}
+
+/// Sets properties of a dataset. What is told of mounts that fail after that.
+fn set_one(host: &mut Host, name: &str, settings: &[Setting], folder: &str) -> Outcome<Vec<String>> {
+    let action = || Action::SetProperty(name.to_owned());
+    let kind = host.open(name)?.kind();
+    let checked = settings.iter().map(|setting| check(setting, kind, false)).collect::<Result<Vec<_>, _>>().trying(action)?;
+    let acts = |checked: &Checked| !matches!(checked, Checked::Native(Native::CanMount, value) if value != "off");
+    let properties: Vec<Property> = checked.iter().filter(|it| acts(it)).map(Checked::property).collect();
+    let affected: Vec<Affected> = properties.iter().filter_map(|property| host.affected(name, property)).collect();
+    affected.iter().try_for_each(|it| host.check_change(it, folder))?;
+    checked.iter().try_for_each(|setting| host.set(name, setting)).trying(action)?;
+    let mut told: Vec<String> = affected.iter().flat_map(|it| host.settle_mounts(it)).collect();
+    told.extend((!told.is_empty()).then(|| "property may be set but unable to remount filesystem".to_owned()));
+    Ok(told)
 }
 
 pub fn inherit(call: &mut Call, words: &[String]) -> Outcome {
@@ -100,19 +121,23 @@ pub fn inherit(call: &mut Call, words: &[String]) -> Outcome {
     }
     let to_received = options.has('S');
     let property = inheritable(word, to_received)?;
-    let is_recursive = options.has('r');
+    let (is_recursive, folder) = (options.has('r'), call.request.folder.clone());
     with_each(call, names, move |host, name| {
         let targets = if is_recursive && !name.contains('@') { host.tree.with_below(name) } else { vec![name.to_owned()] };
+        let mut told = Vec::new();
         for target in targets {
             let action = || Action::Inherit(format!("{property} for '{target}'"));
             let kind = host.open(&target)?.kind();
             if applies(&property, kind) {
+                let affected = host.affected(&target, &property);
+                affected.iter().try_for_each(|it| host.check_change(it, &folder))?;
                 host.inherit(&target, &property, to_received).trying(action)?;
+                told.extend(affected.iter().flat_map(|it| host.settle_mounts(it)));
             } else if !is_recursive {
                 return Err(Failure::Cannot(action(), Reason::Text("property doesn't apply to datasets of this type".into())));
             }
         }
-        Ok(())
+        Ok(told)
     })
 }
 

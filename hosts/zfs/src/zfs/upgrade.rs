@@ -42,7 +42,7 @@ pub fn run(call: &mut Call, words: &[String]) -> Outcome {
     };
     let (is_all, is_of_some) = (options.has('a'), !options.operands.is_empty());
     let (changes, says_how) = (is_all || is_of_some, options.has('r') || options.has('V'));
-    let is_mixed = is_all && is_of_some || options.has('v') && (changes || says_how) || !changes && says_how;
+    let is_mixed = is_all && is_of_some || options.has('v') && changes || !changes && says_how;
     if is_mixed {
         return Err(Failure::Usage(USAGE, String::new()));
     }

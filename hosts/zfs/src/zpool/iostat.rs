@@ -6,6 +6,7 @@ use super::show::check_time;
 use super::vdev;
 use crate::call::Call;
 use crate::failure::{Failure, Outcome};
+use crate::size;
 use crate::usage::{Usage, ZpoolCommand};
 use crate::world::PoolThread;
 use std::sync::Arc;
@@ -62,6 +63,13 @@ fn lines_of(pool: &PoolThread, form: Form) -> Outcome<Vec<Line>> {
         let mut lines: Vec<Line> = tree.lines().map(|name| Line { name: name.trim_matches('\t').to_owned(), space: none() }).collect();
         lines.truncate(if form.is_verbose { lines.len() } else { 1 });
         lines[0].space = space;
+        let (allocated, _) = PoolProperty::Allocated.value(host, true)?;
+        let sized = |number: u64| if form.is_exact { number.to_string() } else { size::plain(number) };
+        for (line, of) in lines[1..].iter_mut().zip(vdev::listed(&host.facts.vdevs, allocated.parse().unwrap_or(0))) {
+            if let Some(used) = of.allocated {
+                line.space = [sized(used), sized(of.size.saturating_sub(used))];
+            }
+        }
         Ok(lines)
     })?
 }

@@ -173,7 +173,8 @@ fn make(call: &mut Call, new: NewPool, root: Vec<Checked>) -> Outcome {
     let made = call.change(&pool, move |host| {
         let name = host.name.clone();
         root.iter().try_for_each(|setting| host.set(&name, setting)).trying(|| Action::Create(name.clone()))?;
-        host.mount(&name);
+        // A pool is made even where its root can't be mounted.
+        let _ = host.mount_new(&name);
         Ok(())
     });
     if made.is_err() {
@@ -285,7 +286,7 @@ fn take_in(call: &mut Call, name: &str, new: Option<&str>, options: &Options) ->
             None => host.facts.properties.remove("altroot"),
         };
         if is_mounted {
-            host.mount_all();
+            let _ = host.mount_all();
         }
     })?;
     pool.set_exported(false);

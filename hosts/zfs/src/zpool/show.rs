@@ -12,10 +12,13 @@ use crate::options::Options;
 use crate::output::{Column, Table};
 use crate::property::listed;
 use crate::setting::{settings, Setting};
+use crate::size;
 use crate::usage::{Usage, ZpoolCommand};
 
 const GET: Usage = Usage::Zpool(ZpoolCommand::Get);
 const LIST: Usage = Usage::Zpool(ZpoolCommand::List);
+/// The fewest letters of a name before vdevs.
+const NAME_LEAST: usize = 9;
 const COLUMNS: &str = "name,size,allocated,free,checkpoint,expandsize,fragmentation,capacity,dedupratio,health,altroot";
 
 fn properties(words: &str, usage: Usage) -> Outcome<Vec<PoolProperty>> {
@@ -31,6 +34,7 @@ pub fn list(call: &mut Call, words: &[String]) -> Outcome {
     let mut operands = options.operands.clone();
     let repeat = Repeat::take(&mut operands, LIST)?;
     let (is_scripted, is_exact) = (options.has('H'), options.has('p'));
+    let has_vdevs = options.has('v') && options.argument('o').is_none();
     repeat.run(call, |call, turn| {
         let pools = pools_of(call, &operands);
         if pools.is_empty() {
@@ -44,12 +48,47 @@ pub fn list(call: &mut Call, words: &[String]) -> Outcome {
             let columns = columns.clone();
             let cells = pool.run(move |host| columns.iter().map(|it| it.value(host, is_exact).map(|(text, _)| text)).collect::<Outcome<Vec<_>>>())??;
             rows.push(cells);
+            if has_vdevs {
+                rows.extend(pool.run(move |host| vdev_rows(host, is_scripted, is_exact))??);
+            }
         }
-        let text = Table { columns: columns.iter().map(PoolProperty::column).collect(), rows }.text(is_scripted);
+        let mut columns: Vec<Column> = columns.iter().map(PoolProperty::column).collect();
+        columns[0].least = if has_vdevs { NAME_LEAST } else { columns[0].least };
+        let text = Table { columns, rows }.text(is_scripted);
         let header = text.find('\n').map_or(0, |end| end + 1);
         call.output.text(if turn > 0 && !is_scripted { &text[header..] } else { &text });
         Ok(())
     })
+}
+
+/// The lines of a pool's vdevs: as those of pools, without the last column.
+fn vdev_rows(host: &mut Host, is_scripted: bool, is_exact: bool) -> Outcome<Vec<Vec<String>>> {
+    let (allocated, _) = PoolProperty::Allocated.value(host, true)?;
+    let sized = |number: u64| if is_exact { number.to_string() } else { size::plain(number) };
+    let percent = if is_exact { "" } else { "%" };
+    let row = |it: vdev::Listed| {
+        let name = if is_scripted { format!("\t{}", it.name.trim_start()) } else { it.name };
+        let of_top = |text: String| it.allocated.map_or_else(|| "-".into(), |_| text);
+        let used = it.allocated.unwrap_or(0);
+        let size = if it.size == 0 { "-".into() } else { sized(it.size) };
+        let none = || "-".to_owned();
+        let share = shown_share(used, it.size, is_exact);
+        let state = it.state.unwrap_or("-").to_owned();
+        let (used, free) = (of_top(sized(used)), of_top(sized(it.size.saturating_sub(used))));
+        vec![name, size, used, free, none(), none(), of_top(format!("0{percent}")), of_top(share), none(), state]
+    };
+    Ok(vdev::listed(&host.facts.vdevs, allocated.parse().unwrap_or(0)).into_iter().map(row).collect())
+}
+
+/// How full a vdev is, in hundredths of a percent where that is little.
+fn shown_share(used: u64, size: u64, is_exact: bool) -> String {
+    let parts = (u128::from(used) * 10_000 / u128::from(size.max(1))) as u64;
+    match parts {
+        _ if is_exact => (parts / 100).to_string(),
+        0..1000 => format!("{:.2}%", parts as f64 / 100.0),
+        1000..10_000 => format!("{:.1}%", parts as f64 / 100.0),
+        _ => format!("{:.0}%", parts as f64 / 100.0),
+    }
 }
 
 /// A time is told as a date or a number of seconds.

@@ -55,6 +55,8 @@ pub struct Vdev {
     pub devices: Vec<String>,
     /// The bytes that it lends.
     pub size: u64,
+    /// The bytes of each device.
+    sizes: Vec<u64>,
 }
 
 /// How many devices a word between devices wants at least; none where it is no such word.
@@ -89,7 +91,7 @@ pub fn read(words: &[String]) -> Outcome<Vec<Vdev>> {
         }
         let devices = if count > 0 { rest[..count].to_vec() } else { vec![word.clone()] };
         let grouping = least.map(|_| if word == "raidz" { "raidz1".to_owned() } else { word.clone() });
-        vdevs.push(Vdev { class, grouping, devices, size: 0 });
+        vdevs.push(Vdev { class, grouping, devices, size: 0, sizes: Vec::new() });
         rest = &rest[count..];
     }
     if vdevs.iter().any(|vdev| vdev.class == Class::Data) { Ok(vdevs) } else { Err(invalid("at least one toplevel vdev must be specified")) }
@@ -120,8 +122,44 @@ impl Vdev {
             Some(word) if word == "mirror" => smallest,
             _ => sizes.iter().sum(),
         };
+        self.sizes = sizes;
         Ok(smallest)
     }
+}
+
+/// A line of `zpool list -v`.
+pub struct Listed {
+    /// Its name, indented.
+    pub name: String,
+    pub size: u64,
+    /// What is allocated, of a vdev that lends something.
+    pub allocated: Option<u64>,
+    /// None of a word that stands before vdevs.
+    pub state: Option<&'static str>,
+}
+
+/// The vdevs and devices of a pool, in the order of `zpool list -v`. What is allocated is said to lie in all evenly.
+pub fn listed(vdevs: &[Vdev], allocated: u64) -> Vec<Listed> {
+    let total = vdevs.iter().map(|vdev| vdev.size).sum::<u64>().max(1);
+    let share = |vdev: &Vdev| (u128::from(allocated) * u128::from(vdev.size) / u128::from(total)) as u64;
+    let classes = [Class::Data, Class::Dedup, Class::Special, Class::Log, Class::Cache, Class::Spare];
+    let mut lines = Vec::new();
+    for class in classes {
+        let state = Some(if class == Class::Spare { "AVAIL" } else { "ONLINE" });
+        let own: Vec<(usize, &Vdev)> = vdevs.iter().enumerate().filter(|(_, vdev)| vdev.class == class).collect();
+        let header = class.header().filter(|_| !own.is_empty()).map(|header| if class == Class::Spare { "spare" } else { header.trim() });
+        lines.extend(header.map(|header| Listed { name: header.to_owned(), size: 0, allocated: None, state: None }));
+        for (place, vdev) in own {
+            let of_space = Some(share(vdev)).filter(|_| vdev.size > 0);
+            let top = vdev.grouping.as_ref().map(|word| format!("  {word}-{place}"));
+            let depth = if top.is_some() { 4 } else { 2 };
+            let of_device = of_space.filter(|_| top.is_none());
+            lines.extend(top.map(|name| Listed { name, size: vdev.size, allocated: of_space, state }));
+            let named = vdev.devices.iter().zip(&vdev.sizes);
+            lines.extend(named.map(|(name, &size)| Listed { name: format!("{:depth$}{name}", ""), size, allocated: of_device, state }));
+        }
+    }
+    lines
 }
 
 /// A line of a layout: how far in it stands, its name, and whether it is a spare's.
@@ -186,6 +224,23 @@ mod tests {
         assert_eq!(text("/no/such").unwrap_err(), "cannot resolve path '/no/such'\n");
         assert!(text("no-such-disk").unwrap_err().contains("no such device in /dev"));
         assert!(text("/etc").is_err());
+    }
+
+    #[test]
+    fn a_list_has_the_space_of_what_stands_at_the_top() {
+        let mut vdevs = vdevs("mirror a b c log d spare e").unwrap();
+        for (vdev, sizes) in vdevs.iter_mut().zip([vec![300, 400], vec![100], vec![50], vec![60]]) {
+            vdev.size = if vdev.class.holds_data() { sizes[0] } else { 0 };
+            vdev.sizes = sizes;
+        }
+        // As many devices as sizes, so the mirror's third stands alone.
+        vdevs[0].devices.pop();
+        vdevs.insert(1, Vdev { class: Class::Data, grouping: None, devices: vec!["c".into()], size: 100, sizes: vec![100] });
+        let lines = listed(&vdevs, 80);
+        let told: Vec<(&str, u64, Option<u64>, bool)> = lines.iter().map(|it| (it.name.as_str(), it.size, it.allocated, it.state.is_some())).collect();
+        let data = [("  mirror-0", 300, Some(60), true), ("    a", 300, None, true), ("    b", 400, None, true), ("  c", 100, Some(20), true)];
+        assert_eq!(told[..4], data);
+        assert_eq!(told[4..], [("logs", 0, None, false), ("  d", 100, None, true), ("spare", 0, None, false), ("  e", 50, None, true)]);
     }
 
     #[test]

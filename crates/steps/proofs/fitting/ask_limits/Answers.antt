@@ -36,15 +36,15 @@ overflow_add-from c =
     omega (arith, few)
 
 pub returns-in-Some-over-clause-err : goal.returns-in-Some-over-clause-err
-returns-in-Some-over-clause-err c s sent force way =
-    inl (sym (over_is s c.args.present c.args.name.now sent force c.args.edit.now c.args.updates.now way (omega arith) c.member.result.now c.member.ensures.value
+returns-in-Some-over-clause-err c s sent mode way =
+    inl (sym (over_is s c.args.present c.args.name.now sent mode c.args.edit.now c.args.updates.now way (omega arith) c.member.result.now c.member.ensures.value
     c.in-Some.file_system.now c.in-Some.ensures c.live.result.now c.live.ensures c.in_ok-forecast.forecast c.in_ok-forecast.ensures.ok
     c.in_ok-outlook.outlook c.in_ok-outlook.ensures.ok _ refl c.len.ensures (ap (λ n. n + c.in_ok-outlook.outlook.waiting) (c.from.ensures ∙ c.counts-waiting.ensures.waiting))
     c.fill.new.self c.settle.new.self c.fill.ensures c.settle.ensures (Some c.in-Some-over.refusal) c.in-Some-over.ensures))
 
 pub returns-clause-ok : goal.returns-clause-ok
-returns-clause-ok c s sent force way limited =
-    sym (over_is s c.args.present c.args.name.now sent force c.args.edit.now c.args.updates.now way (omega arith) c.member.result.now c.member.ensures.value
+returns-clause-ok c s sent mode way limited =
+    sym (over_is s c.args.present c.args.name.now sent mode c.args.edit.now c.args.updates.now way (omega arith) c.member.result.now c.member.ensures.value
     c.in-Some.file_system.now c.in-Some.ensures c.live.result.now c.live.ensures c.in_ok-forecast.forecast c.in_ok-forecast.ensures.ok
     c.in_ok-outlook.outlook c.in_ok-outlook.ensures.ok _ refl c.len.ensures (ap (λ n. n + c.in_ok-outlook.outlook.waiting) (c.from.ensures ∙ c.counts-waiting.ensures.waiting))
     c.fill.new.self c.settle.new.self c.fill.ensures c.settle.ensures None c.in-None.ensures)

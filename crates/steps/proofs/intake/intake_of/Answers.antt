@@ -11,59 +11,59 @@ use Rattle.steps.proofs.intake.intake_of.Goals as goal
 
 pub returns-in_err-stream-clause-err : goal.returns-in_err-stream-clause-err
 returns-in_err-stream-clause-err c s is =
-    refused_by c.from_residual.result c.in_err-stream.field-0.0 (λ e. Step s (Receive c.args.name.now c.args.bytes.now c.args.force) (Refused e) s) c.from_residual.ensures.1
-    (not_read s c.args.present is c.args.name.now c.args.bytes.now c.args.force c.in_err-stream.field-0.0 c.in_err-stream.ensures.err)
+    refused_by c.from_residual.result c.in_err-stream.field-0.0 (λ e. Step s (Receive c.args.name.now c.args.bytes.now c.args.mode.now) (Refused e) s) c.from_residual.ensures.1
+    (not_read s c.args.present is c.args.name.now c.args.bytes.now c.args.mode.now c.in_err-stream.field-0.0 c.in_err-stream.ensures.err)
 
 pub begin-requires : goal.begin-requires
 begin-requires c = record { apart = present_apart c.requires.0 c.args.present c.requires.1 }
 
 pub returns-in_err-edit-clause-err : goal.returns-in_err-edit-clause-err
 returns-in_err-edit-clause-err c s is =
-    refused_by c.from_residual-in_err-edit.result c.in_err-edit.field-0.0 (λ e. Step s (Receive c.args.name.now c.args.bytes.now c.args.force) (Refused e) s) c.from_residual-in_err-edit.ensures.1
-    (not_begun s c.args.present is c.args.name.now c.args.bytes.now c.args.force c.in_ok-stream.stream c.in_ok-stream.ensures.ok c.in_err-edit.field-0.0 c.in_err-edit.ensures.only)
+    refused_by c.from_residual-in_err-edit.result c.in_err-edit.field-0.0 (λ e. Step s (Receive c.args.name.now c.args.bytes.now c.args.mode.now) (Refused e) s) c.from_residual-in_err-edit.ensures.1
+    (not_begun s c.args.present is c.args.name.now c.args.bytes.now c.args.mode.now c.in_ok-stream.stream c.in_ok-stream.ensures.ok c.in_err-edit.field-0.0 c.in_err-edit.ensures.only)
 
 pub returns-in_err-updates-clause-err : goal.returns-in_err-updates-clause-err
 returns-in_err-updates-clause-err c s is =
-    refused_by c.from_residual-in_err-updates.result c.in_err-updates.field-0.0 (λ e. Step s (Receive c.args.name.now c.args.bytes.now c.args.force) (Refused e) s) c.from_residual-in_err-updates.ensures.1
-    (no_memory s c.args.present is c.args.name.now c.args.bytes.now c.args.force c.in_err-updates.field-0.0 c.in_err-updates.ensures.err)
+    refused_by c.from_residual-in_err-updates.result c.in_err-updates.field-0.0 (λ e. Step s (Receive c.args.name.now c.args.bytes.now c.args.mode.now) (Refused e) s) c.from_residual-in_err-updates.ensures.1
+    (no_memory s c.args.present is c.args.name.now c.args.bytes.now c.args.mode.now c.in_err-updates.field-0.0 c.in_err-updates.ensures.err)
 
 pub ask_limits-requires : goal.ask_limits-requires
 ask_limits-requires c =
-    let way = under_way c.requires.0 c.args.present c.requires.1 c.args.name.now c.args.bytes.now c.args.force c.in_ok-stream.stream c.in_ok-stream.ensures.ok c.in_ok-edit.edit c.in_ok-edit.ensures.can c.in_ok-edit.ensures.ok c.in_ok-edit.ensures.lost
+    let way = under_way c.requires.0 c.args.present c.requires.1 c.args.name.now c.args.bytes.now c.args.mode.now c.in_ok-stream.stream c.in_ok-stream.ensures.ok c.in_ok-edit.edit c.in_ok-edit.ensures.can c.in_ok-edit.ensures.ok c.in_ok-edit.ensures.lost
     c.in_ok-edit.ensures.ready c.in_ok-updates.updates.items c.as_slice.result.now c.as_slice.ensures.value c.in_ok-updates.ensures.batch c.records.result.now c.records.ensures c.in_ok-updates.ensures.changes in
-    (c.requires.0, c.in_ok-stream.stream, c.args.force, way)
+    (c.requires.0, c.in_ok-stream.stream, c.args.mode.now, way)
 
 pub returns-in_err-ask_limits-clause-err : goal.returns-in_err-ask_limits-clause-err
 returns-in_err-ask_limits-clause-err c s is =
-    let way = under_way s c.args.present is c.args.name.now c.args.bytes.now c.args.force c.in_ok-stream.stream c.in_ok-stream.ensures.ok c.in_ok-edit.edit c.in_ok-edit.ensures.can c.in_ok-edit.ensures.ok c.in_ok-edit.ensures.lost
+    let way = under_way s c.args.present is c.args.name.now c.args.bytes.now c.args.mode.now c.in_ok-stream.stream c.in_ok-stream.ensures.ok c.in_ok-edit.edit c.in_ok-edit.ensures.can c.in_ok-edit.ensures.ok c.in_ok-edit.ensures.lost
     c.in_ok-edit.ensures.ready c.in_ok-updates.updates.items c.as_slice.result.now c.as_slice.ensures.value c.in_ok-updates.ensures.batch c.records.result.now c.records.ensures c.in_ok-updates.ensures.changes in
-    refused_by c.from_residual-in_err-ask_limits.result c.in_err-ask_limits.field-0.0 (λ e. Step s (Receive c.args.name.now c.args.bytes.now c.args.force) (Refused e) s) c.from_residual-in_err-ask_limits.ensures.1
-    (not_fitting s c.args.present c.args.name.now c.in_ok-stream.stream c.args.force c.in_ok-edit.edit c.as_slice.result.now way c.args.bytes.now c.in_ok-stream.ensures.ok c.in_err-ask_limits.field-0.0
-    (c.in_err-ask_limits.ensures.err s c.in_ok-stream.stream c.args.force way))
+    refused_by c.from_residual-in_err-ask_limits.result c.in_err-ask_limits.field-0.0 (λ e. Step s (Receive c.args.name.now c.args.bytes.now c.args.mode.now) (Refused e) s) c.from_residual-in_err-ask_limits.ensures.1
+    (not_fitting s c.args.present c.args.name.now c.in_ok-stream.stream c.args.mode.now c.in_ok-edit.edit c.as_slice.result.now way c.args.bytes.now c.in_ok-stream.ensures.ok c.in_err-ask_limits.field-0.0
+    (c.in_err-ask_limits.ensures.err s c.in_ok-stream.stream c.args.mode.now way))
 
 pub finish-requires-clause-writes : goal.finish-requires-clause-writes
 finish-requires-clause-writes c =
-    let way = under_way c.requires.0 c.args.present c.requires.1 c.args.name.now c.args.bytes.now c.args.force c.in_ok-stream.stream c.in_ok-stream.ensures.ok c.in_ok-edit.edit c.in_ok-edit.ensures.can c.in_ok-edit.ensures.ok c.in_ok-edit.ensures.lost
+    let way = under_way c.requires.0 c.args.present c.requires.1 c.args.name.now c.args.bytes.now c.args.mode.now c.in_ok-stream.stream c.in_ok-stream.ensures.ok c.in_ok-edit.edit c.in_ok-edit.ensures.can c.in_ok-edit.ensures.ok c.in_ok-edit.ensures.lost
     c.in_ok-edit.ensures.ready c.in_ok-updates.updates.items c.as_slice-2.result.now c.as_slice-2.ensures.value c.in_ok-updates.ensures.batch c.records.result.now c.records.ensures c.in_ok-updates.ensures.changes in
-    batch_may c.requires.0 c.args.present c.args.name.now c.in_ok-stream.stream c.args.force c.in_ok-edit.edit c.as_slice-2.result.now way
+    batch_may c.requires.0 c.args.present c.args.name.now c.in_ok-stream.stream c.args.mode.now c.in_ok-edit.edit c.as_slice-2.result.now way
 
 pub returns-in_err-done-clause-err : goal.returns-in_err-done-clause-err
 returns-in_err-done-clause-err c s is =
-    let way = under_way s c.args.present is c.args.name.now c.args.bytes.now c.args.force c.in_ok-stream.stream c.in_ok-stream.ensures.ok c.in_ok-edit.edit c.in_ok-edit.ensures.can c.in_ok-edit.ensures.ok c.in_ok-edit.ensures.lost
+    let way = under_way s c.args.present is c.args.name.now c.args.bytes.now c.args.mode.now c.in_ok-stream.stream c.in_ok-stream.ensures.ok c.in_ok-edit.edit c.in_ok-edit.ensures.can c.in_ok-edit.ensures.ok c.in_ok-edit.ensures.lost
     c.in_ok-edit.ensures.ready c.in_ok-updates.updates.items c.as_slice.result.now c.as_slice.ensures.value c.in_ok-updates.ensures.batch c.records.result.now c.records.ensures c.in_ok-updates.ensures.changes in
-    let later = under_way s c.args.present is c.args.name.now c.args.bytes.now c.args.force c.in_ok-stream.stream c.in_ok-stream.ensures.ok c.in_ok-edit.edit c.in_ok-edit.ensures.can c.in_ok-edit.ensures.ok c.in_ok-edit.ensures.lost
+    let later = under_way s c.args.present is c.args.name.now c.args.bytes.now c.args.mode.now c.in_ok-stream.stream c.in_ok-stream.ensures.ok c.in_ok-edit.edit c.in_ok-edit.ensures.can c.in_ok-edit.ensures.ok c.in_ok-edit.ensures.lost
     c.in_ok-edit.ensures.ready c.in_ok-updates.updates.items c.as_slice-2.result.now c.as_slice-2.ensures.value c.in_ok-updates.ensures.batch c.records.result.now c.records.ensures c.in_ok-updates.ensures.changes in
-    refused_by c.from_residual-in_err-done.result c.in_err-done.field-0.0 (λ e. Step s (Receive c.args.name.now c.args.bytes.now c.args.force) (Refused e) s) c.from_residual-in_err-done.ensures.1
-    (not_finished s c.args.present c.args.name.now c.in_ok-stream.stream c.args.force c.in_ok-edit.edit c.as_slice-2.result.now later c.args.bytes.now c.in_ok-stream.ensures.ok
-    (c.in_ok-ask_limits.ensures.ok s c.in_ok-stream.stream c.args.force way) c.in_err-done.field-0.0 (λ e. c.in_err-done.ensures.no_space (ap Err e)) c.in_err-done.ensures.only)
+    refused_by c.from_residual-in_err-done.result c.in_err-done.field-0.0 (λ e. Step s (Receive c.args.name.now c.args.bytes.now c.args.mode.now) (Refused e) s) c.from_residual-in_err-done.ensures.1
+    (not_finished s c.args.present c.args.name.now c.in_ok-stream.stream c.args.mode.now c.in_ok-edit.edit c.as_slice-2.result.now later c.args.bytes.now c.in_ok-stream.ensures.ok
+    (c.in_ok-ask_limits.ensures.ok s c.in_ok-stream.stream c.args.mode.now way) c.in_err-done.field-0.0 (λ e. c.in_err-done.ensures.no_space (ap Err e)) c.in_err-done.ensures.only)
 
 pub returns-clause-ok : goal.returns-clause-ok
 returns-clause-ok c s is =
-    let way = under_way s c.args.present is c.args.name.now c.args.bytes.now c.args.force c.in_ok-stream.stream c.in_ok-stream.ensures.ok c.in_ok-edit.edit c.in_ok-edit.ensures.can c.in_ok-edit.ensures.ok c.in_ok-edit.ensures.lost
+    let way = under_way s c.args.present is c.args.name.now c.args.bytes.now c.args.mode.now c.in_ok-stream.stream c.in_ok-stream.ensures.ok c.in_ok-edit.edit c.in_ok-edit.ensures.can c.in_ok-edit.ensures.ok c.in_ok-edit.ensures.lost
     c.in_ok-edit.ensures.ready c.in_ok-updates.updates.items c.as_slice.result.now c.as_slice.ensures.value c.in_ok-updates.ensures.batch c.records.result.now c.records.ensures c.in_ok-updates.ensures.changes in
-    let later = under_way s c.args.present is c.args.name.now c.args.bytes.now c.args.force c.in_ok-stream.stream c.in_ok-stream.ensures.ok c.in_ok-edit.edit c.in_ok-edit.ensures.can c.in_ok-edit.ensures.ok c.in_ok-edit.ensures.lost
+    let later = under_way s c.args.present is c.args.name.now c.args.bytes.now c.args.mode.now c.in_ok-stream.stream c.in_ok-stream.ensures.ok c.in_ok-edit.edit c.in_ok-edit.ensures.can c.in_ok-edit.ensures.ok c.in_ok-edit.ensures.lost
     c.in_ok-edit.ensures.ready c.in_ok-updates.updates.items c.as_slice-2.result.now c.as_slice-2.ensures.value c.in_ok-updates.ensures.batch c.records.result.now c.records.ensures c.in_ok-updates.ensures.changes in
-    finished s c.args.present c.args.name.now c.in_ok-stream.stream c.args.force c.in_ok-edit.edit c.as_slice-2.result.now later c.args.bytes.now c.in_ok-stream.ensures.ok
-    (c.in_ok-ask_limits.ensures.ok s c.in_ok-stream.stream c.args.force way) c.finish.new.table c.in_ok-done.done
+    finished s c.args.present c.args.name.now c.in_ok-stream.stream c.args.mode.now c.in_ok-edit.edit c.as_slice-2.result.now later c.args.bytes.now c.in_ok-stream.ensures.ok
+    (c.in_ok-ask_limits.ensures.ok s c.in_ok-stream.stream c.args.mode.now way) c.finish.new.table c.in_ok-done.done
     (subst (λ guid. HasReceived c.in_ok-edit.edit.to c.finish.new.table c.args.name.now guid (changes_of c.as_slice-2.result.now) c.args.present.synced.0 c.args.present.allocator.now c.in_ok-done.done)
     c.target.ensures c.in_ok-done.ensures.ok) c.in_ok-done.ensures.room

@@ -1,10 +1,5 @@
 use Rattle.std.proofs.Common.{rules}
-use Rattle.yuzgont_c.specs.declared.answer.Answer.TheVariants.{NoPool}
-use Rattle.yuzgont_c.specs.Calls.{Does}
-use Rattle.std.specs.Prelude.{Some}
-use Rattle.model.specs.declared.request.Request.TheVariants.{Abandon}
-use Rattle.yuzgont_c.proofs.Handles.{unopened}
 use Rattle.yuzgont_c.proofs.exports.yuzgont_abandon.Goals as goal
 
-pub returns-in_default : goal.returns-in_default
-returns-in_default c = (NoPool, search rules, unopened (Does (Some Abandon)) _ _ c.in_default.ensures.taken c.in_default.ensures.left)
+pub returns : goal.returns
+returns c = (c.abandon.result, search rules, c.abandon.ensures)

@@ -1,9 +1,5 @@
-use Rattle.std.proofs.Common.{Some, rules}
-use Rattle.model.specs.declared.request.Request.TheVariants.{CloseView}
-use Rattle.yuzgont_c.specs.declared.answer.Answer.TheVariants.{NoPool}
-use Rattle.yuzgont_c.specs.Calls.{Does}
-use Rattle.yuzgont_c.proofs.Handles.{unopened}
+use Rattle.std.proofs.Common.{rules}
 use Rattle.yuzgont_c.proofs.exports.yuzgont_close_view.Goals as goal
 
-pub returns-in_default : goal.returns-in_default
-returns-in_default c = (NoPool, search rules, unopened (Does (Some (CloseView c.args.view))) _ _ c.in_default.ensures.taken c.in_default.ensures.left)
+pub returns : goal.returns
+returns c = (c.close_view.result, search rules, c.close_view.ensures)

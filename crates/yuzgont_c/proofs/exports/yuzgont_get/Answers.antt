@@ -1,9 +1,5 @@
 use Rattle.std.proofs.Common.{rules}
-use Rattle.yuzgont_c.specs.declared.answer.Answer.TheVariants.{NoPool}
-use Rattle.yuzgont_c.specs.Calls.{GetsOf}
-use Rattle.yuzgont_c.specs.Asking.{property_at}
-use Rattle.yuzgont_c.proofs.Handles.{unopened}
 use Rattle.yuzgont_c.proofs.exports.yuzgont_get.Goals as goal
 
-pub returns-in_default : goal.returns-in_default
-returns-in_default c = (NoPool, search rules, unopened (GetsOf c.args.name.now (property_at c.args.property) c.args.value.now c.args.value.now) _ _ c.in_default.ensures.taken c.in_default.ensures.left)
+pub returns : goal.returns
+returns c = (c.get.result, search rules, c.get.ensures)

@@ -1,9 +1,5 @@
-use Rattle.std.proofs.Common.{Some, rules}
-use Rattle.model.specs.declared.request.Request.TheVariants.{List}
-use Rattle.yuzgont_c.specs.declared.answer.Answer.TheVariants.{NoPool}
-use Rattle.yuzgont_c.specs.Calls.{Lists}
-use Rattle.yuzgont_c.proofs.Handles.{unopened}
+use Rattle.std.proofs.Common.{rules}
 use Rattle.yuzgont_c.proofs.exports.yuzgont_list.Goals as goal
 
-pub returns-in_default : goal.returns-in_default
-returns-in_default c = (NoPool, search rules, unopened (Lists (Some List) c.args.size.now) _ _ c.in_default.ensures.taken c.in_default.ensures.left)
+pub returns : goal.returns
+returns c = (c.list.result, search rules, c.list.ensures)

@@ -1,9 +1,5 @@
 use Rattle.std.proofs.Common.{rules}
-use Rattle.yuzgont_c.specs.declared.answer.Answer.TheVariants.{NoPool}
-use Rattle.yuzgont_c.specs.Asking.{asked_release}
-use Rattle.yuzgont_c.specs.Calls.{Does}
-use Rattle.yuzgont_c.proofs.Handles.{unopened}
 use Rattle.yuzgont_c.proofs.exports.yuzgont_release.Goals as goal
 
-pub returns-in_default : goal.returns-in_default
-returns-in_default c = (NoPool, search rules, unopened (Does (asked_release c.args.tag.now c.args.snapshot.now)) _ _ c.in_default.ensures.taken c.in_default.ensures.left)
+pub returns : goal.returns
+returns c = (c.release.result, search rules, c.release.ensures)

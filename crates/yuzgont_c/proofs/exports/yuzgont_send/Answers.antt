@@ -1,8 +1,5 @@
 use Rattle.std.proofs.Common.{rules}
-use Rattle.yuzgont_c.specs.declared.answer.Answer.TheVariants.{NoPool}
-use Rattle.yuzgont_c.specs.Calls.{Sends}
-use Rattle.yuzgont_c.proofs.Handles.{unopened}
 use Rattle.yuzgont_c.proofs.exports.yuzgont_send.Goals as goal
 
-pub returns-in_default : goal.returns-in_default
-returns-in_default c = (NoPool, search rules, unopened (Sends c.args.name.now c.args.from.now c.args.size.now) _ _ c.in_default.ensures.taken c.in_default.ensures.left)
+pub returns : goal.returns
+returns c = (c.send.result, search rules, c.send.ensures)

@@ -1,9 +1,5 @@
 use Rattle.std.proofs.Common.{rules}
-use Rattle.yuzgont_c.specs.declared.answer.Answer.TheVariants.{NoPool}
-use Rattle.yuzgont_c.specs.Calls.{Does}
-use Rattle.yuzgont_c.specs.Asking.{asked_snapshot}
-use Rattle.yuzgont_c.proofs.Handles.{unopened}
 use Rattle.yuzgont_c.proofs.exports.yuzgont_snapshot.Goals as goal
 
-pub returns-in_default : goal.returns-in_default
-returns-in_default c = (NoPool, search rules, unopened (Does (asked_snapshot c.args.name.now c.args.recursive)) _ _ c.in_default.ensures.taken c.in_default.ensures.left)
+pub returns : goal.returns
+returns c = (c.snapshot.result, search rules, c.snapshot.ensures)

@@ -21,41 +21,41 @@ no_ledger None e = refl
 no_ledger (Some x) e = absurd cc
 
 pub intake_of-requires : goal.intake_of-requires
-intake_of-requires c = ((state_in c.args.self.now c.args.world.now), (present (state_in c.args.self.now c.args.world.now) c.args.self.now.numbers.present c.requires.sound _ (sym c.present.ensures) refl refl (sym c.group.ensures) refl (λ no. unlimited c.args.self.now c.args.world.now c.requires (no_ledger c.args.world.now.ledger (sym c.is_some.ensures ∙ no)))))
+intake_of-requires c = ((state_in c.args.self.now c.args.world.now), (present (state_in c.args.self.now c.args.world.now) c.args.self.now.numbers.present c.requires.sound _ (sym c.present.ensures) refl refl refl (sym c.group.ensures) refl (λ no. unlimited c.args.self.now c.args.world.now c.requires (no_ledger c.args.world.now.ledger (sym c.is_some.ensures ∙ no)))))
 
 pub returns-in_err-intake-clause-performed : goal.returns-in_err-intake-clause-performed
 returns-in_err-intake-clause-performed c =
-    exits (state_in c.args.self.now c.args.world.now) c.args.self.now.numbers.present _ (Receive c.args.snapshot.now c.args.bytes.now c.args.force) c.from_residual.result c.in_err-intake.field-0.0 c.from_residual.ensures.1
-    (subst (λ b. Step (state_in c.args.self.now c.args.world.now) (Receive c.args.snapshot.now b c.args.force) (Refused c.in_err-intake.field-0.0) (state_in c.args.self.now c.args.world.now)) c.as_slice.ensures (c.in_err-intake.ensures.err (state_in c.args.self.now c.args.world.now) (present (state_in c.args.self.now c.args.world.now) c.args.self.now.numbers.present c.requires.sound _ (sym c.present.ensures) refl refl (sym c.group.ensures) refl (λ no. unlimited c.args.self.now c.args.world.now c.requires (no_ledger c.args.world.now.ledger (sym c.is_some.ensures ∙ no))))))
+    exits (state_in c.args.self.now c.args.world.now) c.args.self.now.numbers.present _ (Receive c.args.snapshot.now c.args.bytes.now c.args.mode.now) c.from_residual.result c.in_err-intake.field-0.0 c.from_residual.ensures.1
+    (subst (λ b. Step (state_in c.args.self.now c.args.world.now) (Receive c.args.snapshot.now b c.args.mode.now) (Refused c.in_err-intake.field-0.0) (state_in c.args.self.now c.args.world.now)) c.as_slice.ensures (c.in_err-intake.ensures.err (state_in c.args.self.now c.args.world.now) (present (state_in c.args.self.now c.args.world.now) c.args.self.now.numbers.present c.requires.sound _ (sym c.present.ensures) refl refl refl (sym c.group.ensures) refl (λ no. unlimited c.args.self.now c.args.world.now c.requires (no_ledger c.args.world.now.ledger (sym c.is_some.ensures ∙ no))))))
 
 pub recount-requires-clause-unlimited : goal.recount-requires-clause-unlimited
 recount-requires-clause-unlimited c =
     let i = c.in_ok-intake.intake in
-    intake_bare c.args.self.now c.args.world.now c.requires c.args.snapshot.now c.as_slice.result.now c.args.force i (c.in_ok-intake.ensures.ok (state_in c.args.self.now c.args.world.now) (present (state_in c.args.self.now c.args.world.now) c.args.self.now.numbers.present c.requires.sound _ (sym c.present.ensures) refl refl (sym c.group.ensures) refl (λ no. unlimited c.args.self.now c.args.world.now c.requires (no_ledger c.args.world.now.ledger (sym c.is_some.ensures ∙ no)))))
+    intake_bare c.args.self.now c.args.world.now c.requires c.args.snapshot.now c.as_slice.result.now c.args.mode.now i (c.in_ok-intake.ensures.ok (state_in c.args.self.now c.args.world.now) (present (state_in c.args.self.now c.args.world.now) c.args.self.now.numbers.present c.requires.sound _ (sym c.present.ensures) refl refl refl (sym c.group.ensures) refl (λ no. unlimited c.args.self.now c.args.world.now c.requires (no_ledger c.args.world.now.ledger (sym c.is_some.ensures ∙ no)))))
 
 pub recount-requires-clause-few : goal.recount-requires-clause-few
 recount-requires-clause-few c =
     let i = c.in_ok-intake.intake in
-    intake_few c.args.self.now c.args.world.now c.requires c.args.snapshot.now c.as_slice.result.now c.args.force i (c.in_ok-intake.ensures.ok (state_in c.args.self.now c.args.world.now) (present (state_in c.args.self.now c.args.world.now) c.args.self.now.numbers.present c.requires.sound _ (sym c.present.ensures) refl refl (sym c.group.ensures) refl (λ no. unlimited c.args.self.now c.args.world.now c.requires (no_ledger c.args.world.now.ledger (sym c.is_some.ensures ∙ no)))))
+    intake_few c.args.self.now c.args.world.now c.requires c.args.snapshot.now c.as_slice.result.now c.args.mode.now i (c.in_ok-intake.ensures.ok (state_in c.args.self.now c.args.world.now) (present (state_in c.args.self.now c.args.world.now) c.args.self.now.numbers.present c.requires.sound _ (sym c.present.ensures) refl refl refl (sym c.group.ensures) refl (λ no. unlimited c.args.self.now c.args.world.now c.requires (no_ledger c.args.world.now.ledger (sym c.is_some.ensures ∙ no)))))
 
 pub returns-in_err-blocks-clause-performed : goal.returns-in_err-blocks-clause-performed
 returns-in_err-blocks-clause-performed c =
-    exits (state_in c.args.self.now c.args.world.now) c.args.self.now.numbers.present _ (Receive c.args.snapshot.now c.args.bytes.now c.args.force) c.from_residual-in_err-blocks.result c.in_err-blocks.field-0.0 c.from_residual-in_err-blocks.ensures.1
-    (subst (λ e. Step (state_in c.args.self.now c.args.world.now) (Receive c.args.snapshot.now c.args.bytes.now c.args.force) (Refused e) (state_in c.args.self.now c.args.world.now)) (sym c.in_err-blocks.ensures.err)
-    (receive_no_memory (state_in c.args.self.now c.args.world.now) c.args.snapshot.now c.args.bytes.now c.args.force))
+    exits (state_in c.args.self.now c.args.world.now) c.args.self.now.numbers.present _ (Receive c.args.snapshot.now c.args.bytes.now c.args.mode.now) c.from_residual-in_err-blocks.result c.in_err-blocks.field-0.0 c.from_residual-in_err-blocks.ensures.1
+    (subst (λ e. Step (state_in c.args.self.now c.args.world.now) (Receive c.args.snapshot.now c.args.bytes.now c.args.mode.now) (Refused e) (state_in c.args.self.now c.args.world.now)) (sym c.in_err-blocks.ensures.err)
+    (receive_no_memory (state_in c.args.self.now c.args.world.now) c.args.snapshot.now c.args.bytes.now c.args.mode.now))
 
 pub recount-requires-clause-before : goal.recount-requires-clause-before
 recount-requires-clause-before c =
     let i = c.in_ok-intake.intake in (
       datasets_of (state_in c.args.self.now c.args.world.now),
       subst (λ (m : Member). CanRecount (datasets_of (state_in c.args.self.now c.args.world.now)) i.to m.file_system c.args.world.now.ledger) (sym c.member.ensures.value)
-          (intake_counted c.args.self.now c.args.world.now c.requires c.args.snapshot.now c.as_slice.result.now c.args.force i (c.in_ok-intake.ensures.ok (state_in c.args.self.now c.args.world.now) (present (state_in c.args.self.now c.args.world.now) c.args.self.now.numbers.present c.requires.sound _ (sym c.present.ensures) refl refl (sym c.group.ensures) refl (λ no. unlimited c.args.self.now c.args.world.now c.requires (no_ledger c.args.world.now.ledger (sym c.is_some.ensures ∙ no)))))),
+          (intake_counted c.args.self.now c.args.world.now c.requires c.args.snapshot.now c.as_slice.result.now c.args.mode.now i (c.in_ok-intake.ensures.ok (state_in c.args.self.now c.args.world.now) (present (state_in c.args.self.now c.args.world.now) c.args.self.now.numbers.present c.requires.sound _ (sym c.present.ensures) refl refl refl (sym c.group.ensures) refl (λ no. unlimited c.args.self.now c.args.world.now c.requires (no_ledger c.args.world.now.ledger (sym c.is_some.ensures ∙ no)))))),
     )
 
 pub returns-clause-performed : goal.returns-clause-performed
 returns-clause-performed c =
     let i = c.in_ok-intake.intake in
-    let is = (c.in_ok-intake.ensures.ok (state_in c.args.self.now c.args.world.now) (present (state_in c.args.self.now c.args.world.now) c.args.self.now.numbers.present c.requires.sound _ (sym c.present.ensures) refl refl (sym c.group.ensures) refl (λ no. unlimited c.args.self.now c.args.world.now c.requires (no_ledger c.args.world.now.ledger (sym c.is_some.ensures ∙ no))))) in
-    let told = rw c.deref.ensures.value at (rw c.member.ensures.value at c.in_ok-blocks.ensures.ok) (intake_present c.args.self.now c.args.world.now c.requires c.args.snapshot.now c.as_slice.result.now c.args.force i is) in
-    subst (λ b. IsPerformed (state_in c.args.self.now c.args.world.now) c.args.self.now.numbers.present (record { table = i.to; freeing = i.freeing; ledger = c.recount.new.ledger }) (Receive c.args.snapshot.now b c.args.force) (Ok (Blocks i.done (Each c.in_ok-blocks.blocks)))) c.as_slice.ensures
-    (intake_performed c.args.self.now c.args.world.now c.requires c.args.snapshot.now c.as_slice.result.now c.args.force i is c.recount.new.ledger c.recount.ensures c.in_ok-blocks.blocks told)
+    let is = (c.in_ok-intake.ensures.ok (state_in c.args.self.now c.args.world.now) (present (state_in c.args.self.now c.args.world.now) c.args.self.now.numbers.present c.requires.sound _ (sym c.present.ensures) refl refl refl (sym c.group.ensures) refl (λ no. unlimited c.args.self.now c.args.world.now c.requires (no_ledger c.args.world.now.ledger (sym c.is_some.ensures ∙ no))))) in
+    let told = rw c.deref.ensures.value at (rw c.member.ensures.value at c.in_ok-blocks.ensures.ok) (intake_present c.args.self.now c.args.world.now c.requires c.args.snapshot.now c.as_slice.result.now c.args.mode.now i is) in
+    subst (λ b. IsPerformed (state_in c.args.self.now c.args.world.now) c.args.self.now.numbers.present (record { table = i.to; freeing = i.freeing; ledger = c.recount.new.ledger }) (Receive c.args.snapshot.now b c.args.mode.now) (Ok (Blocks i.done (Each c.in_ok-blocks.blocks)))) c.as_slice.ensures
+    (intake_performed c.args.self.now c.args.world.now c.requires c.args.snapshot.now c.as_slice.result.now c.args.mode.now i is c.recount.new.ledger c.recount.ensures c.in_ok-blocks.blocks told)

@@ -1,0 +1,178 @@
+#!/usr/bin/env python3
+"""Asks pools of the library and the plain machine (bench/plain.py) the same random requests, receives in each mode among them, and compares.
+
+    python3 bench/receives.py [--first SEED] [--pools N] [--requests N]
+
+The pools are asked through the Python package over the shared library that `make` leaves in hosts/out (or the one that YUZGONT_LIBRARY names).
+A script's lines have two modes of a receive, and this tries all five, of streams that the pools send each other. It prints how often each mode
+was done or refused, and fails where a reply, a name, a size or a block is another than the plain machine's. A seed says all that is asked.
+"""
+
+import argparse
+import random
+import sys
+from collections import Counter
+from pathlib import Path
+
+from plain import Refused, fresh, lawful, target_of, told_by
+
+sys.path.insert(0, str(Path(__file__).resolve().parent.parent / "hosts" / "python"))
+from yuzgont import Pool, Receiving, Refusal  # noqa: E402
+
+SYSTEMS, SNAPSHOTS, BLOCKS = "p p/a p/a/x p/b p/c".split(), "1234", (0, 1, 2, 16, 17, 300)
+PROPERTIES = "used available referenced written usedbysnapshots usedbydataset usedbychildren quota refquota reservation origin".split()
+POOL_PROPERTIES = "allocated free freeing waiting group".split()
+
+
+class Wrong(Exception):
+    """The two gave different replies."""
+
+
+class Both:
+    """A pool of the library, and the state of the plain machine."""
+
+    def __init__(self, size, number):
+        self.pool, self.state, self.asked = Pool(size, number), fresh(size, number), []
+
+    def line(self, line):
+        """Asks a line of both; the reply."""
+        lawful_replies, told = dict(lawful(self.state, line.encode())), self.pool.reply(line).rstrip("\n")
+        self.asked.append(f"{line[:120]}: {told[:120]}")
+        if told not in lawful_replies:
+            raise Wrong(f"the plain machine: {' or '.join(map(str, lawful_replies))[:200]}")
+        self.state = lawful_replies[told]
+        return told
+
+    def receive(self, mode, name, stream, origin):
+        """Receives a stream on both; what came of it."""
+        try:
+            wanted, state = self.state.receive(mode, target_of(name), stream, target_of(origin))
+            state = state.swept()
+        except Refused as refused:
+            wanted, state = refused.args[0], self.state
+        try:
+            self.pool.receive(name, stream, Receiving[mode.upper()], origin if mode == "Origin" else "")
+            told = "ok"
+        except Refusal as refused:
+            told = type(refused).__name__
+        self.asked.append(f"receive {mode} {name}, perhaps of {origin}: {told}")
+        if told != wanted:
+            raise Wrong(f"the plain machine: {wanted}")
+        self.state = state
+        return told
+
+    def look(self):
+        """Compares all names, sizes and some blocks."""
+        names = ["list", *(f"pget {it}" for it in POOL_PROPERTIES)]
+        sizes = [f"get {it} {system}" for system in SYSTEMS for it in PROPERTIES]
+        snapshots = [f"get used {system}@{it}" for system in SYSTEMS for it in SNAPSHOTS]
+        blocks = [f"read {system} 0 {it}" for system in SYSTEMS for it in BLOCKS]
+        for line in names + sizes + snapshots + blocks:
+            self.line(line)
+            self.asked.pop()
+
+    def snapshots(self):
+        """The names of all snapshots, with each one's guid."""
+        return {f"{system}@{it.name}": it.guid for system, f in self.state.now.systems.items() for it in f.snaps.values()}
+
+
+def line_of(draw):
+    """A line that changes something, if it isn't refused."""
+    system = draw.choice(SYSTEMS)
+    snapshot = f"{draw.choice(SYSTEMS)}@{draw.choice(SNAPSHOTS)}"
+    limit = draw.choice("quota refquota reservation refreservation".split())
+    lines = {
+        f"write {system} 0 {draw.choice(BLOCKS)} {draw.randrange(97, 122):x}": 30,
+        f"punch {system} 0 {draw.choice(BLOCKS)}": 6,
+        f"snapshot {snapshot}": 14,
+        f"create {system}": 8,
+        f"clone {snapshot} {system}": 5,
+        f"promote {system}": 3,
+        f"destroy -r {system}": 3,
+        f"destroy {draw.choice(['', '-d '])}{snapshot}": 4,
+        f"rollback -r {snapshot}": 3,
+        f"{draw.choice(['hold', 'release'])} t {snapshot}": 3,
+        f"bookmark {snapshot} {snapshot.partition('@')[0]}#{draw.choice('mn')}": 3,
+        f"view {snapshot}": 2,
+        f"unview {draw.randrange(1, 5)}": 2,
+        f"set {limit}={draw.choice(['none', 5120, 10240, 20480])} {system}": 4,
+        "sync": 4,
+        "slice 4194304": 3,
+        "abandon": 3,
+    }
+    return draw.choices(list(lines), list(lines.values()))[0]
+
+
+def stream_of(draw, giver, taker):
+    """A stream that a pool sends, where it can from a snapshot that the other has; None where it has no snapshot."""
+    world, there = giver.state.now, set(taker.snapshots().values())
+    pairs = [(source, to) for to in giver.snapshots() for source in older_of(world, to)]
+    known = [it for it in pairs if giver.snapshots()[it[0]] in there]
+    if pairs and draw.random() < 0.7:
+        return bytes.fromhex(giver.line("send -i {} {}".format(*draw.choice(known or pairs))))
+    return bytes.fromhex(giver.line(f"send {draw.choice(list(giver.snapshots()))}")) if giver.snapshots() else None
+
+
+def older_of(world, name):
+    """The names of the snapshots that a stream of this one may start from."""
+    return [f"{system}@{it.name}" for system, it in world.older(name.partition("@")[0], world.named(target_of(name)))]
+
+
+def receive(draw, giver, taker, counts):
+    """Receives a stream of one pool on the other, often where its mode could do it."""
+    stream = stream_of(draw, giver, taker)
+    if not stream:
+        return
+    mode, source = draw.choice("Plain Back Past Origin Replace".split()), told_by(stream)[0]
+    holders = [name for name, guid in taker.snapshots().items() if guid == source]
+    system, origin = draw.choice(SYSTEMS), f"{draw.choice(SYSTEMS)}@{draw.choice(SNAPSHOTS)}"
+    if holders and draw.random() < 0.8:
+        origin = draw.choice(holders)
+        system = system if mode == "Origin" else origin.partition("@")[0]
+    told = taker.receive(mode, f"{system}@{draw.choice(SNAPSHOTS)}", stream, origin)
+    counts[mode, "incremental" if source else "full", told] += 1
+
+
+def try_pools(seed, requests, counts):
+    """Two pools, and so many requests of the one or the other."""
+    draw = random.Random(seed)
+    size = draw.choice([60, 120, 300, 600])
+    both = [Both(size, number) for number in (1, 2)]
+    try:
+        for _ in range(requests):
+            one, other = draw.sample(both, 2)
+            if draw.random() < 0.7:
+                one.line(line_of(draw))
+            else:
+                receive(draw, one, draw.choice(both), counts)
+            if draw.random() < 0.1:
+                one.look()
+        for it in both:
+            it.look()
+    except Wrong as wrong:
+        asked = "\n  ".join(f"{number}: {line}" for number, it in enumerate(both, 1) for line in it.asked[-8:])
+        return f"seed {seed}, pools of {size} blocks:\n  {asked}\n  {wrong}"
+    return None
+
+
+def main():
+    options = argparse.ArgumentParser(description=__doc__, formatter_class=argparse.RawDescriptionHelpFormatter)
+    options.add_argument("--first", type=int, default=1)
+    options.add_argument("--pools", type=int, default=40)
+    options.add_argument("--requests", type=int, default=100)
+    options = options.parse_args()
+    counts, wrong = Counter(), []
+    for seed in range(options.first, options.first + options.pools):
+        found = try_pools(seed, options.requests, counts)
+        if found:
+            wrong.append(seed)
+            print(found)
+    for (mode, kind, told), count in sorted(counts.items()):
+        print(f"{mode}, {kind}: {told} {count}")
+    missing = [it for it in "Plain Back Past Origin Replace".split() if not any(key[0] == it and key[2] == "ok" for key in counts)]
+    print(f"{sum(counts.values())} receives in {2 * options.pools} pools, {len(wrong)} of {options.pools} seeds wrong" + "".join(f", {it} never done" for it in missing))
+    sys.exit(bool(wrong or missing))
+
+
+if __name__ == "__main__":
+    main()

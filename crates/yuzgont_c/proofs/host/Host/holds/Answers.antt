@@ -1,4 +1,0 @@
-use Rattle.yuzgont_c.proofs.host.Host.holds.Goals as goal
-
-pub returns : goal.returns
-returns c = c.keep_names.ensures _ c.ask_holds-request.ensures

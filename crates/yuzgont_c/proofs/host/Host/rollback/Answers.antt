@@ -1,4 +1,0 @@
-use Rattle.yuzgont_c.proofs.host.Host.rollback.Goals as goal
-
-pub returns : goal.returns
-returns c = c.tell.ensures _ c.ask_rollback-request.ensures

@@ -1,4 +1,0 @@
-use Rattle.yuzgont_c.proofs.host.Host.snapshot.Goals as goal
-
-pub returns : goal.returns
-returns c = c.tell.ensures _ c.ask_snapshot-request.ensures

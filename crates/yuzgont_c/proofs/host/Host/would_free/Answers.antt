@@ -1,4 +1,0 @@
-use Rattle.yuzgont_c.proofs.host.Host.would_free.Goals as goal
-
-pub returns : goal.returns
-returns c = c.tell_number_of.ensures _ c.ask_would_free-request.ensures
