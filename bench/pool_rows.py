@@ -35,8 +35,7 @@ from pathlib import Path
 import plain
 import refused
 from judge import Judge
-from plain import Refused
-from row_words import MASK, error, mixed
+from row_words import MASK, error, mixed, received
 from wrong_bodies import order_of_tree
 
 ROOT = Path(__file__).resolve().parent.parent
@@ -138,14 +137,11 @@ class Plain:
     def do_take(self, place, words, _given):
         self.asked[place].append(words)
         mode, name, digits = words.split(" ")
-        origin = plain.target_of(mode) if "@" in mode else None
+        words = ("Origin", name, bytes.fromhex(digits), mode) if "@" in mode else (mode.capitalize(), name, bytes.fromhex(digits))
         judge = self.pools[place]
-        try:
-            reply, state = judge.states[0].receive("Origin" if origin else mode.capitalize(), plain.target_of(name), bytes.fromhex(digits), origin)
-        except Refused as refusal:
-            return error(refusal.args[0])
-        judge.states = [state.swept()]
-        return reply
+        reply, state = received(judge.states[0], *words)
+        judge.states = [state]
+        return reply if reply == "ok" else error(reply)
 
     def do_list(self, place, lines, _given):
         return "; ".join(self.do_apply(place, it, None) for it in lines.split("; "))

@@ -14,7 +14,8 @@ import sys
 from collections import Counter
 from pathlib import Path
 
-from plain import Refused, fresh, lawful, target_of, told_by
+from plain import fresh, lawful, target_of, told_by
+from row_words import received
 
 sys.path.insert(0, str(Path(__file__).resolve().parent.parent / "hosts" / "python"))
 from yuzgont import Pool, Receiving, Refusal  # noqa: E402
@@ -45,11 +46,7 @@ class Both:
 
     def receive(self, mode, name, stream, origin):
         """Receives a stream on both; what came of it."""
-        try:
-            wanted, state = self.state.receive(mode, target_of(name), stream, target_of(origin))
-            state = state.swept()
-        except Refused as refused:
-            wanted, state = refused.args[0], self.state
+        wanted, state = received(self.state, mode, name, stream, origin)
         try:
             self.pool.receive(name, stream, Receiving[mode.upper()], origin if mode == "Origin" else "")
             told = "ok"

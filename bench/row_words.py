@@ -1,6 +1,6 @@
 """What the scripts share that tell of rows: their words, refusals, and sums."""
 
-from plain import REFUSALS, Refused
+from plain import REFUSALS, Refused, target_of
 
 MASK = (1 << 64) - 1
 PAST = 1 << 32
@@ -15,6 +15,15 @@ def mixed(total, number):
 
 def error(name):
     return f"error {REFUSALS.index(name) + 1} {name}"
+
+
+def received(state, mode, name, stream, origin=None):
+    """What the plain machine tells of a receive in a mode, `ok` or the name of a refusal, and the state after it."""
+    try:
+        reply, new = state.receive(mode, target_of(name), stream, origin and target_of(origin))
+    except Refused as refused:
+        return refused.args[0], state
+    return reply, new.swept()
 
 
 def yes(is_so):
