@@ -13,20 +13,20 @@ use Rattle.removals.proofs.gone.destroy_snapshots.Goals as goal
 
 pub returns-in-Some-clause-only : goal.returns-in-Some-clause-only
 returns-in-Some-clause-only c =
-    inl (sym (c.refusal_of.ensures c.args.name.now c.args.recursive (ap (map (λ (p : Name × Snap). id_of p.1)) c.deref.ensures.value ∙ c.in_ok-all.ensures.ids)) ∙ c.in-Some.is)
+    inl (sym (c.refusal_of.ensures c.args.names.now c.args.recursive (ap (map (λ (p : Name × Snap). id_of p.1)) c.deref.ensures.value ∙ c.in_ok-all.ensures.ids)) ∙ c.in-Some.is)
 
 pub returns-in-Some-clause-refused : goal.returns-in-Some-clause-refused
 returns-in-Some-clause-refused c =
     subst (λ (x : Option Refusal). IfSome x (λ e. (◌≡◌ {A = Result (Unit {0}) Refusal} (Err c.in-Some.refusal) (Err e)) ⊎ (◌≡◌ {A = Result (Unit {0}) Refusal} (Err c.in-Some.refusal) (Err NoMemory))))
-    (sym (sym (c.refusal_of.ensures c.args.name.now c.args.recursive (ap (map (λ (p : Name × Snap). id_of p.1)) c.deref.ensures.value ∙ c.in_ok-all.ensures.ids)) ∙ c.in-Some.is))
+    (sym (sym (c.refusal_of.ensures c.args.names.now c.args.recursive (ap (map (λ (p : Name × Snap). id_of p.1)) c.deref.ensures.value ∙ c.in_ok-all.ensures.ids)) ∙ c.in-Some.is))
     (inl refl)
 
 pub remove_or_defer-requires-clause-no_clone : goal.remove_or_defer-requires-clause-no_clone
 remove_or_defer-requires-clause-no_clone c =
     let ids = ap (map (λ (p : Name × Snap). id_of p.1)) c.deref-2.ensures.value ∙ c.in_ok-all.ensures.ids in
-    none_cloned c.args.table.now c.facts.ensures.good c.args.views.now.opened c.args.name.now c.args.recursive c.args.defer c.deref-2.result.now ids
+    none_cloned c.args.table.now c.facts.ensures.good c.args.views.now.opened c.args.names.now c.args.recursive c.args.defer c.deref-2.result.now ids
     (subst (AreThere c.args.table.now) (sym c.deref-2.ensures.value) c.in_ok-all.ensures.there)
-    (sym (c.refusal_of.ensures c.args.name.now c.args.recursive (ap (map (λ (p : Name × Snap). id_of p.1)) c.deref.ensures.value ∙ c.in_ok-all.ensures.ids)) ∙ c.in_default.is)
+    (sym (c.refusal_of.ensures c.args.names.now c.args.recursive (ap (map (λ (p : Name × Snap). id_of p.1)) c.deref.ensures.value ∙ c.in_ok-all.ensures.ids)) ∙ c.in_default.is)
 
 pub returns-clause-ok : goal.returns-clause-ok
 returns-clause-ok c =
@@ -42,10 +42,10 @@ returns-clause-lost c =
 
 pub returns-clause-can : goal.returns-clause-can
 returns-clause-can c =
-    sym (c.refusal_of.ensures c.args.name.now c.args.recursive (ap (map (λ (p : Name × Snap). id_of p.1)) c.deref.ensures.value ∙ c.in_ok-all.ensures.ids)) ∙ c.in_default.is
+    sym (c.refusal_of.ensures c.args.names.now c.args.recursive (ap (map (λ (p : Name × Snap). id_of p.1)) c.deref.ensures.value ∙ c.in_ok-all.ensures.ids)) ∙ c.in_default.is
 
 pub returns-clause-refused : goal.returns-clause-refused
 returns-clause-refused c =
     subst (λ (x : Option Refusal). IfSome x (λ e. (◌≡◌ {A = Result (Unit {0}) Refusal} (Ok (tt {0})) (Err e)) ⊎ (◌≡◌ {A = Result (Unit {0}) Refusal} (Ok (tt {0})) (Err NoMemory))))
-    (sym (sym (c.refusal_of.ensures c.args.name.now c.args.recursive (ap (map (λ (p : Name × Snap). id_of p.1)) c.deref.ensures.value ∙ c.in_ok-all.ensures.ids)) ∙ c.in_default.is))
+    (sym (sym (c.refusal_of.ensures c.args.names.now c.args.recursive (ap (map (λ (p : Name × Snap). id_of p.1)) c.deref.ensures.value ∙ c.in_ok-all.ensures.ids)) ∙ c.in_default.is))
     tt
