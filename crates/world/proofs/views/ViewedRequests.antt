@@ -45,6 +45,23 @@ row_false (x ∷ xs) none r h = by_first x.0 refl (λ k. row_false xs k r) none 
     by_first true e rest k i = absurd (no_value x.1 (sym k))
     by_first false e rest k i = ⊎_elim (λ (is : r ≡ x). ap (λ (y : Bool × Refusal). y.0) is ∙ e) (rest k) i
 
+-- the rest of a row that refuses nothing refuses nothing
+pub rest_none : (r : Bool × Refusal) (rs : Row) → first_of (r ∷ rs) ≡ None → first_of rs ≡ None
+rest_none r rs e = by_first r.0 e
+  where
+    by_first : (b : Bool) → cond b (Some r.1) (first_of rs) ≡ None → first_of rs ≡ None
+    by_first true k = absurd (no_value r.1 (sym k))
+    by_first false k = k
+
+-- and so does its front
+pub left_none : (xs ys : Row) → first_of (xs ++ ys) ≡ None → first_of xs ≡ None
+left_none [] ys e = refl
+left_none (x ∷ xs) ys e = by_first x.0 (λ k. left_none xs ys k) e
+  where
+    by_first : (b : Bool) → (first_of (xs ++ ys) ≡ None → first_of xs ≡ None) → cond b (Some x.1) (first_of (xs ++ ys)) ≡ None → cond b (Some x.1) (first_of xs) ≡ None
+    by_first true rest k = absurd (no_value x.1 (sym k))
+    by_first false rest k = rest k
+
 -- none of the snapshots has an open view
 pub not_viewed : (w : World) (views : Views) (ids : List SnapId) → is_busy w views ids ≡ false → (id : SnapId) → IsIn ids id → is_viewed views id ≡ true → ⊥
 not_viewed w views ids e id h seen =
