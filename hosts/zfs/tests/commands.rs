@@ -68,6 +68,35 @@ fn a_range_of_snapshots_is_destroyed() {
 }
 
 #[test]
+fn several_snapshots_go_together_or_not_at_all() {
+    let world = World::with_pool();
+    world.run("zfs create -p tank/a/b
+        zfs snapshot -r tank/a@1
+        zfs snapshot -r tank/a@2
+        zfs snapshot -r tank/a@3
+        zfs snapshot tank/a@4
+        zfs hold keep tank/a/b@3");
+    let all = names(&world, "tank/a");
+    let refused = |line: &str, held: &[&str]| {
+        let err = held.iter().map(|name| format!("cannot destroy snapshot {name}: dataset is busy\n")).collect();
+        assert_eq!(world.line(line), Said { status: 1, out: String::new(), err }, "{line}");
+        assert_eq!(names(&world, "tank/a"), all);
+    };
+    refused("zfs destroy -r tank/a@1%4", &["tank/a/b@3"]);
+    world.run("zfs hold keep tank/a@2");
+    refused("zfs destroy -r tank/a@%", &["tank/a@2", "tank/a/b@3"]);
+    refused("zfs destroy tank/a@4,2,1", &["tank/a@2"]);
+    world.run("zfs destroy -r -d tank/a@1%3,none");
+    assert_eq!(names(&world, "tank/a"), ["tank/a", "tank/a@2", "tank/a@4", "tank/a/b", "tank/a/b@3"]);
+    world.run("zfs release keep tank/a@2
+        zfs release keep tank/a/b@3
+        zfs snapshot tank@r
+        zfs snapshot tank@s
+        zfs destroy -r tank");
+    assert_eq!(names(&world, "tank"), ["tank"]);
+}
+
+#[test]
 fn a_clone_is_promoted_over_its_origin() {
     let world = World::with_pool();
     world.run("zfs create tank/a
