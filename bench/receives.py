@@ -96,7 +96,7 @@ def line_of(draw):
     lines = {
         f"write {system} 0 {draw.choice(BLOCKS)} {draw.randrange(97, 122):x}": 30,
         f"punch {system} 0 {draw.choice(BLOCKS)}": 6,
-        f"snapshot {snapshot}": 14,
+        f"snapshot {snapshot}": 18,
         f"create {system}": 8,
         f"clone {snapshot} {system}": 5,
         f"promote {system}": 3,
@@ -146,11 +146,15 @@ def receive(draw, giver, taker, counts):
 
 
 def destroy(draw, pool, counts):
-    """Destroys snapshots of a list. Half of the names are of snapshots that are there, some stand twice, and a list may be of one name."""
+    """Destroys snapshots of a list. Half of the names are of snapshots that are there, one of which may be kept first; some stand twice."""
     there, names = list(pool.snapshots()), []
     for _ in range(draw.choice([1, 2, 2, 3, 4, 6])):
         is_there = there and draw.random() < 0.5
         names.append(draw.choice(there) if is_there else f"{draw.choice(SYSTEMS)}@{draw.choice(SNAPSHOTS)}")
+    if there and draw.random() < 0.3:
+        kept = draw.choice(there)
+        pool.line(draw.choice([f"hold t {kept}", f"clone {kept} {draw.choice(SYSTEMS)}"]))
+        names.insert(draw.randrange(len(names) + 1), kept)
     names += draw.sample(names, 1) if draw.random() < 0.2 else []
     recursive, deferred = draw.random() < 0.3, draw.random() < 0.3
     told = pool.destroy(recursive, deferred, names)
@@ -166,9 +170,9 @@ def try_pools(seed, requests, counts):
         for _ in range(requests):
             one, other = draw.sample(both, 2)
             which = draw.random()
-            if which < 0.65:
+            if which < 0.66:
                 one.line(line_of(draw))
-            elif which < 0.73:
+            elif which < 0.7:
                 destroy(draw, one, counts)
             else:
                 receive(draw, one, draw.choice(both), counts)
