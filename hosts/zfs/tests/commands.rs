@@ -82,7 +82,7 @@ fn several_snapshots_go_together_or_not_at_all() {
         assert_eq!(world.line(line), Said { status: 1, out: String::new(), err }, "{line}");
         assert_eq!(names(&world, "tank/a"), all);
     };
-    refused("zfs destroy -r tank/a@1%4", &["tank/a/b@3"]);
+    refused("zfs destroy -r tank/a@1%3", &["tank/a/b@3"]);
     world.run("zfs hold keep tank/a@2");
     refused("zfs destroy -r tank/a@%", &["tank/a@2", "tank/a/b@3"]);
     refused("zfs destroy tank/a@4,2,1", &["tank/a@2"]);
