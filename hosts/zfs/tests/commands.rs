@@ -240,6 +240,31 @@ fn a_mountpoint_that_is_a_file_is_set_and_not_mounted() {
     assert_eq!(names(&world, "tank"), ["tank", "tank/a", "tank/b", "tank/c", "tank/c@s", "tank/d"]);
 }
 
+/// The texts are those of `zfs_receive` and `zfs_mount_at` of OpenZFS 2.1.11, which mounts what was received at the end of all.
+#[test]
+fn a_received_file_system_that_can_t_be_mounted_is_told() {
+    let world = World::with_pool();
+    let file = world.folder.join("tank.img").to_str().unwrap().to_owned();
+    world.run("zfs create -p tank/a/b
+        zfs snapshot -r tank/a@s
+        zfs snapshot -r tank/a@t");
+    let place = format!("mountpoint={file}");
+    let unmounted = "cannot mount 'tank/c': Not a directory\n";
+    let said = world.receive(&world.stream(&["tank/a@s"]), &["-o", &place, "tank/c"]);
+    assert_eq!(said, Said { status: 1, out: String::new(), err: unmounted.into() });
+    assert_eq!((value(&world, "mounted", "tank/c"), value(&world, "mountpoint", "tank/c")), ("no".into(), file.clone()));
+    let said = world.receive(&world.stream(&["-i", "@s", "tank/a@t"]), &["tank/c"]);
+    assert_eq!(said, Said { status: 0, out: String::new(), err: String::new() });
+    world.run("zfs destroy -r tank/c");
+    let said = world.receive(&world.stream(&["tank/a@s"]), &["-u", "-o", &place, "tank/c"]);
+    assert_eq!(said.status, 0, "{said:?}");
+    world.run("zfs destroy -r tank/c");
+    let below = format!("{unmounted}cannot mount '{file}/b': failed to create mountpoint: Not a directory\n");
+    let said = world.receive(&world.stream(&["-R", "tank/a@t"]), &["-o", &place, "tank/c"]);
+    assert_eq!(said, Said { status: 1, out: String::new(), err: below });
+    assert_eq!(names(&world, "tank/c"), ["tank/c", "tank/c@s", "tank/c@t", "tank/c/b", "tank/c/b@s", "tank/c/b@t"]);
+}
+
 /// A bookmark keeps what its snapshot referenced, as the feature `bookmark_written` has it; so has a bookmark of it.
 #[test]
 fn a_bookmark_tells_what_its_snapshot_referenced() {

@@ -7,6 +7,7 @@ use crate::host::Host;
 use crate::name;
 use crate::options::Options;
 use crate::property::{Kinds, Property};
+use crate::protocol::Status;
 use crate::setting::{settings, Setting};
 use crate::size;
 use crate::stream::format::{read_body, read_head, read_magic, Begin, Broken, Head, Step};
@@ -114,7 +115,7 @@ fn receive(call: &mut Call, manner: &Manner) -> Outcome {
         let (manner, begin) = (manner.clone(), begin.clone());
         call.change(&pool, move |host| host.follow_sender(&manner, &begin))?;
     }
-    let mut top = None;
+    let (mut top, mut made) = (None, Vec::new());
     let mut next = read_head(call).map_err(|broken| unreadable(&broken))?;
     loop {
         let (step, length) = match next {
@@ -125,10 +126,22 @@ fn receive(call: &mut Call, manner: &Manner) -> Outcome {
         let goal = destination(manner, &begin, &step.to_name)?;
         let top = top.get_or_insert_with(|| name::base(&goal).to_owned());
         let is_top = top == name::base(&goal);
-        next = receive_step(call, &pool, manner, step, length, Goal { name: goal, is_top, is_replication: begin.is_replication })?;
+        next = receive_step(call, &pool, manner, step, length, Goal { name: goal, is_top, is_replication: begin.is_replication }, &mut made)?;
+    }
+    if !manner.is_unmounted && !made.is_empty() {
+        let told = pool.run(move |host| host.mount_made(&made))?;
+        tell_unmounted(call, &told);
     }
     call.log(&pool);
     Ok(())
+}
+
+/// Tells what can't be mounted, and that the command ends with status 1 for it.
+fn tell_unmounted(call: &mut Call, told: &[String]) {
+    told.iter().for_each(|line| call.output.error(line));
+    if !told.is_empty() {
+        call.status = Status::Failed;
+    }
 }
 
 /// Where a step goes.
@@ -138,8 +151,17 @@ struct Goal {
     is_replication: bool,
 }
 
-/// Receives a step, once the head behind it has come: a stream that is cut before its end leaves nothing of its last step. That head.
-fn receive_step(call: &mut Call, pool: &Arc<PoolThread>, manner: &Manner, step: Step, length: u64, goal: Goal) -> Outcome<(Head, u64)> {
+/// Receives a step, once the head behind it has come: a stream that is cut before its end leaves nothing of its last step. That head; and what was
+/// made is added to the names.
+fn receive_step(
+    call: &mut Call,
+    pool: &Arc<PoolThread>,
+    manner: &Manner,
+    step: Step,
+    length: u64,
+    goal: Goal,
+    made: &mut Vec<String>,
+) -> Outcome<(Head, u64)> {
     let begin = Instant::now();
     let has_already = announce(call, pool, manner, &step, &goal)?;
     let bytes = match read_body(call, &step, length) {
@@ -157,7 +179,7 @@ fn receive_step(call: &mut Call, pool: &Arc<PoolThread>, manner: &Manner, step: 
     }
     let count = if has_already { 0 } else { bytes.len() as u64 };
     if !has_already {
-        take(call, pool, manner, step, bytes, goal)?;
+        made.extend(take(call, pool, manner, step, bytes, goal)?);
     }
     if manner.is_verbose {
         let seconds = begin.elapsed().as_secs().max(1);
@@ -167,16 +189,17 @@ fn receive_step(call: &mut Call, pool: &Arc<PoolThread>, manner: &Manner, step: 
     Ok(next)
 }
 
-/// Receives a step that has come whole.
-fn take(call: &mut Call, pool: &Arc<PoolThread>, manner: &Manner, step: Step, bytes: Vec<u8>, goal: Goal) -> Outcome {
-    let manner_here = manner.clone();
-    let told = call.change(pool, move |host| {
+/// Receives a step that has come whole. The name of the file system that it made, if it did.
+fn take(call: &mut Call, pool: &Arc<PoolThread>, manner: &Manner, step: Step, bytes: Vec<u8>, goal: Goal) -> Outcome<Option<String>> {
+    let (manner_here, base) = (manner.clone(), name::base(&goal.name).to_owned());
+    let received = call.change(pool, move |host| {
         let Goal { name: destination, is_top, is_replication } = goal;
         let arrived = Arrived { destination, step, bytes: Rc::new(bytes), is_top, is_replication };
         host.receive_step(&manner_here, &arrived)
     })?;
-    told.iter().for_each(|line| call.output.error(line));
-    Ok(())
+    received.told.iter().for_each(|line| call.output.error(line));
+    tell_unmounted(call, &received.unmounted);
+    Ok(received.is_made.then_some(base))
 }
 
 /// Looks whether a step may be received, and tells of it with `-v`. Whether its snapshot is there already, which is passed over.
