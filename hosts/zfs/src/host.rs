@@ -76,6 +76,7 @@ impl Host {
             hidden: BTreeSet::new(),
             is_mounted: false,
             mounted_at: None,
+            is_over_refquota: false,
             mount_options: Vec::new(),
             partial: None,
             snapshots: Vec::new(),
@@ -85,6 +86,7 @@ impl Host {
 
     /// Frees what was let go, and closes the group, so that space is back at once and two commands are never in one group.
     fn settle(&mut self) -> Result<(), Refusal> {
+        self.bind_refquotas()?;
         self.layer.free_all()?;
         self.group = self.layer.sync()?;
         if self.layer.number("pget waiting")? > 0 {

@@ -549,6 +549,40 @@ fn a_replication_brings_properties_of_snapshots_that_are_there() {
     assert_eq!(world.run("zfs get -H -o value,source my:note tank/z@s"), "late\treceived\n");
 }
 
+/// As `dsl_dataset_clone_swap_check_impl` of OpenZFS 2.1.11 has it: a refquota doesn't bind a receive but by the slack of a transaction.
+#[test]
+fn a_receive_goes_over_a_refquota() {
+    let world = World::with_pool();
+    world.run("zfs create tank/a
+        zfs yuz-write tank/a 0 0 8 61
+        zfs snapshot tank/a@1
+        zfs yuz-write tank/a 1 0 64 62
+        zfs snapshot tank/a@2
+        zfs yuz-write tank/a 2 0 8 63
+        zfs snapshot tank/a@3");
+    let nothing = Said { status: 0, out: String::new(), err: String::new() };
+    assert_eq!(world.receive(&world.stream(&["tank/a@1"]), &["tank/b"]), nothing);
+    let small: u64 = value(&world, "referenced", "tank/b").parse().unwrap();
+    let refquota = (small + 10 * 512).to_string();
+    world.run(&format!("zfs set refquota={refquota} tank/b"));
+    for (from, to) in [("@1", "tank/a@2"), ("@2", "tank/a@3")] {
+        assert_eq!(world.receive(&world.stream(&["-i", from, to]), &["tank/b"]), nothing);
+    }
+    let referenced = value(&world, "referenced", "tank/b");
+    assert_eq!((referenced.as_str(), value(&world, "refquota", "tank/b")), (value(&world, "referenced", "tank/a").as_str(), refquota.clone()));
+    assert!(referenced.parse::<u64>().unwrap() > small + 64 * 512);
+    // One that comes with the stream is set after it, as far as it can be.
+    let told = "cannot receive refquota property on tank/c: size is less than current used or reserved space\n";
+    assert_eq!(world.receive(&world.stream(&["-p", "tank/b@3"]), &["tank/c"]), Said { status: 0, out: String::new(), err: told.into() });
+    // Nothing is written that makes it refer to more; and once it refers to less, the refquota is what it was.
+    let full = Said { status: 1, out: String::new(), err: "tank/b: Disk quota exceeded\n".into() };
+    assert_eq!(world.line("zfs yuz-write tank/b 9 0 1 64"), full);
+    world.run("zfs rollback -r tank/b@1
+        zfs yuz-write tank/b 0 8 2 64");
+    assert_eq!(world.line("zfs yuz-write tank/b 9 0 8 64"), full);
+    assert_eq!(value(&world, "refquota", "tank/b"), refquota);
+}
+
 #[test]
 fn a_receive_sets_what_the_kind_has() {
     let world = World::with_pool();

@@ -187,7 +187,8 @@ impl Host {
     fn replace(&mut self, arrived: &Arrived, base: &str, component: &str, bytes: &[u8]) -> Outcome {
         let path = self.tree.get(base).map(|it| it.path.clone()).unwrap_or_default();
         let to = format!("{path}@{component}");
-        self.layer.receive(&to, Receiving::Replace, bytes).map_err(|refusal| not_received(arrived, base, refusal))?;
+        let received = self.receive_over_refquota(base, |layer| layer.receive(&to, Receiving::Replace, bytes));
+        received.map_err(|refusal| not_received(arrived, base, refusal))?;
         self.follow_layer();
         Ok(())
     }
@@ -254,7 +255,8 @@ impl Host {
         let path = self.tree.get(base).map(|it| it.path.clone()).unwrap_or_default();
         let component = self.tree.next_component();
         let mode = if manner.is_forced { Receiving::Past } else { Receiving::Plain };
-        self.layer.receive(&format!("{path}@{component}"), mode, respelled.as_deref().unwrap_or(bytes)).map_err(wrong)?;
+        let (to, bytes) = (format!("{path}@{component}"), respelled.as_deref().unwrap_or(bytes));
+        self.receive_over_refquota(base, |layer| layer.receive(&to, mode, bytes)).map_err(wrong)?;
         if manner.is_forced {
             self.follow_layer();
         }
@@ -302,7 +304,8 @@ impl Host {
         let changes: Vec<(String, String)> = gone.chain(wanted.clone()).collect();
         for (name, value) in changes {
             let Some(native) = Native::named(&name).filter(|native| native.is_limit()) else { continue };
-            if local.contains_key(&name) {
+            // One that stays isn't set anew: the file system may be over it.
+            if local.contains_key(&name) || before.get(&name) == Some(&value) {
                 continue;
             }
             if let Err(reason) = self.set_limit(base, native, &value) {
