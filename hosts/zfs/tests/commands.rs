@@ -240,6 +240,42 @@ fn a_mountpoint_that_is_a_file_is_set_and_not_mounted() {
     assert_eq!(names(&world, "tank"), ["tank", "tank/a", "tank/b", "tank/c", "tank/c@s", "tank/d"]);
 }
 
+/// As `zfs_prop_get_written_int` of OpenZFS 2.1.11 reads the name: a bookmark's may stand behind either sign, with its file system or without.
+#[test]
+fn what_was_written_since_a_bookmark_is_told() {
+    let world = World::with_pool();
+    world.run("zfs create tank/a
+        zfs yuz-write tank/a 0 0 8 61
+        zfs snapshot tank/a@1
+        zfs bookmark tank/a@1 tank/a#one
+        zfs bookmark tank/a#one tank/a#two
+        zfs yuz-write tank/a 0 4 8 62
+        zfs snapshot tank/a@2
+        zfs yuz-write tank/a 1 0 1 63
+        zfs snapshot tank/a@3
+        zfs clone tank/a@2 tank/c");
+    let names = ["tank/a", "tank/a@2", "tank/a@3", "tank/a@1", "tank/c"];
+    let since = |property: &str| names.map(|name| value(&world, property, name));
+    let written = since("written@tank/a@1");
+    assert!(written[0] != "0" && written[3] == "-");
+    for property in ["written#tank/a#one", "written@tank/a#two", "written#tank/a@1"] {
+        assert_eq!(since(property), written, "{property}");
+    }
+    assert_eq!(value(&world, "written#one", "tank/a"), written[0]);
+    // The snapshot goes, and the bookmark stays. A clone's bookmarks are its own.
+    world.run("zfs destroy tank/a@1");
+    let before = world.state();
+    for property in ["written#one", "written#tank/a#two"] {
+        let told: Vec<String> = names[..3].iter().map(|name| value(&world, property, name)).collect();
+        assert_eq!(told, written[..3], "{property}");
+    }
+    assert_eq!(world.run("zfs list -Hp -o written#one,written@one tank/a"), format!("{}\t-\n", written[0]));
+    for (property, name) in [("written#none", "tank/a"), ("written#one", "tank/c"), ("written#tank/a#one", "tank/c"), ("written#one", "tank/a#two")] {
+        assert_eq!(value(&world, property, name), "-", "{property} {name}");
+    }
+    assert_eq!(world.state(), before);
+}
+
 /// The texts are those of `zfs_receive` and `zfs_mount_at` of OpenZFS 2.1.11, which mounts what was received at the end of all.
 #[test]
 fn a_received_file_system_that_can_t_be_mounted_is_told() {
