@@ -29,6 +29,8 @@ pub struct Host {
     pub tree: Tree,
     pub facts: PoolFacts,
     pub history: Vec<String>,
+    /// When the pool was scrubbed last, by the client's clock.
+    pub scrubbed: Option<i64>,
     /// The tree at the layer's last sync.
     settled: Tree,
     /// The layer's open group.
@@ -55,7 +57,7 @@ impl Host {
     pub fn create(name: String, blocks: u32, clock: i64, facts: PoolFacts) -> Result<Host, Refusal> {
         let layer = Layer::create(random() as u32 | 1, blocks)?;
         let (tree, settled) = (Tree::new(), Tree::new());
-        let mut host = Host { name: name.clone(), layer, tree, facts, history: Vec::new(), settled, group: 1 };
+        let mut host = Host { name: name.clone(), layer, tree, facts, history: Vec::new(), scrubbed: None, settled, group: 1 };
         host.layer.write(ROOT, MASTER.0, MASTER.1, &[1])?;
         let root = host.new_file_system(ROOT.into(), Kind::FileSystem, clock);
         host.tree.insert(name, root);

@@ -585,6 +585,27 @@ fn a_replication_brings_properties_of_snapshots_that_are_there() {
     assert_eq!(world.run("zfs get -H -o value,source my:note tank/z@s"), "late\treceived\n");
 }
 
+/// As `print_scan_scrub_resilver_status` of OpenZFS 2.1.11 has it: no line where nothing was ever scrubbed.
+#[test]
+fn a_scrub_is_told_by_zpool_status() {
+    let world = World::with_pool();
+    world.pool("back");
+    let lines = |pool: &str| world.run(&format!("zpool status {pool}")).lines().map(str::to_owned).collect::<Vec<_>>();
+    let before = lines("tank");
+    assert!(before.iter().all(|line| !line.contains("scan:")), "{before:?}");
+    world.run("zpool scrub tank");
+    let after = lines("tank");
+    assert!(after[2].starts_with("  scan: scrub repaired 0B in 00:00:00 with 0 errors on "), "{after:?}");
+    let date: Vec<&str> = after[2].rsplit(' ').take(5).filter(|word| !word.is_empty()).collect();
+    assert!(date[0].len() == 4 && date[1].len() == 8 && date[1].matches(':').count() == 2, "{after:?}");
+    assert_eq!([&after[..2], &after[3..]].concat(), before);
+    assert_eq!(world.line("zpool scrub -s tank").status, 1);
+    assert!(lines("back").iter().all(|line| !line.contains("scan:")));
+    world.run("zpool export tank
+        zpool import tank");
+    assert_eq!(lines("tank"), after);
+}
+
 /// As `dsl_dataset_clone_swap_check_impl` of OpenZFS 2.1.11 has it: a refquota doesn't bind a receive but by the slack of a transaction.
 #[test]
 fn a_receive_goes_over_a_refquota() {
