@@ -640,6 +640,37 @@ fn a_receive_goes_over_a_refquota() {
     assert_eq!(value(&world, "refquota", "tank/b"), refquota);
 }
 
+/// `zfs_receive_package` of OpenZFS 2.1.11 knows of no origin.
+#[test]
+fn an_origin_is_of_a_lone_stream() {
+    let world = World::with_pool();
+    world.run("zfs create tank/a
+        zfs yuz-write tank/a 0 0 1 61
+        zfs snapshot tank/a@1
+        zfs yuz-write tank/a 0 0 1 62
+        zfs snapshot tank/a@2
+        zfs yuz-write tank/a 0 0 1 63
+        zfs snapshot tank/a@3");
+    let origin = ["-v", "-o", "origin=tank/a@1"];
+    let receive = |words: &[&str], to: &str| world.receive(&world.stream(words), &[&origin, &[to][..]].concat());
+    let provided = "using provided clone origin tank/a@1\n";
+    let said = receive(&["-i", "@1", "tank/a@2"], "tank/b");
+    assert!(said.status == 0 && said.out.starts_with(provided), "{said:?}");
+    assert_eq!(value(&world, "origin", "tank/b"), "tank/a@1");
+    let steps = ["-I", "@1", "tank/a@3"];
+    let said = receive(&steps, "tank/c");
+    assert_eq!((said.status, said.err.as_str()), (1, "cannot receive incremental stream: destination 'tank/c' does not exist\n"));
+    assert_eq!(world.receive(&world.stream(&["tank/a@1"]), &["tank/c"]).status, 0);
+    for (words, to) in [(&steps[..], "tank/c"), (&["-p", "tank/a@1"], "tank/d"), (&["-R", "tank/a@2"], "tank/e")] {
+        let said = receive(words, to);
+        assert!(said.status == 0 && !said.out.contains(provided), "{said:?}");
+        assert_eq!(value(&world, "origin", to), "-");
+    }
+    assert_eq!(names(&world, "tank/c"), ["tank/c", "tank/c@1", "tank/c@2", "tank/c@3"]);
+    let said = world.receive(&world.stream(&steps), &["-o", "origin=tank/a@none", "tank/c"]);
+    assert_eq!((said.status, said.err.as_str()), (1, "cannot receive: specified origin fs (tank/a@none) does not exist\n"));
+}
+
 #[test]
 fn a_receive_sets_what_the_kind_has() {
     let world = World::with_pool();

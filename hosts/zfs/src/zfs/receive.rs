@@ -110,6 +110,8 @@ fn receive(call: &mut Call, manner: &Manner) -> Outcome {
         _ => return Err(unreadable(&Broken::Damaged)),
     };
     check_values(&manner.settings).trying(|| Action::Receive)?;
+    // OpenZFS hands an origin to a lone stream alone.
+    let manner = &Manner { origin: manner.origin.clone().filter(|_| !begin.is_compound), ..manner.clone() };
     let Some(pool) = call.world.pool_of(&manner.target) else { return Err(no_pool(call, manner, &begin)) };
     if begin.is_replication && begin.is_incremental && !manner.is_dry {
         let (manner, begin) = (manner.clone(), begin.clone());
@@ -120,7 +122,7 @@ fn receive(call: &mut Call, manner: &Manner) -> Outcome {
     loop {
         let (step, length) = match next {
             (Head::End, 0) => break,
-            (Head::Step(step), length) => (step.onto(manner.origin.as_deref().filter(|_| !begin.is_replication)), length),
+            (Head::Step(step), length) => (step.onto(manner.origin.as_deref()), length),
             _ => return Err(unreadable(&Broken::Damaged)),
         };
         let goal = destination(manner, &begin, &step.to_name)?;
@@ -259,7 +261,7 @@ fn cut(call: &Call, pool: &Arc<PoolThread>, manner: &Manner, goal: &str, step: &
 fn no_pool(call: &mut Call, manner: &Manner, begin: &Begin) -> Failure {
     let action = match read_head(call) {
         Ok((Head::Step(step), _)) => {
-            let step = step.onto(manner.origin.as_deref().filter(|_| !begin.is_replication));
+            let step = step.onto(manner.origin.as_deref());
             match destination(manner, begin, &step.to_name) {
                 Ok(goal) if step.is_clone && manner.origin.is_none() => {
                     return Failure::Cannot(Action::Receive, Reason::Text(format!("local origin for clone {goal} does not exist")));
