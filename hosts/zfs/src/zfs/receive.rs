@@ -117,25 +117,30 @@ fn receive(call: &mut Call, manner: &Manner) -> Outcome {
         let (manner, begin) = (manner.clone(), begin.clone());
         call.change(&pool, move |host| host.follow_sender(&manner, &begin))?;
     }
-    let (mut top, mut made) = (None, Vec::new());
-    let mut next = read_head(call).map_err(|broken| unreadable(&broken))?;
-    loop {
-        let (step, length) = match next {
-            (Head::End, 0) => break,
-            (Head::Step(step), length) => (step.onto(manner.origin.as_deref()), length),
-            _ => return Err(unreadable(&Broken::Damaged)),
-        };
-        let goal = destination(manner, &begin, &step.to_name)?;
-        let top = top.get_or_insert_with(|| name::base(&goal).to_owned());
-        let is_top = top == name::base(&goal);
-        next = receive_step(call, &pool, manner, step, length, Goal { name: goal, is_top, is_replication: begin.is_replication }, &mut made)?;
-    }
+    let made = receive_steps(call, &pool, manner, &begin)?;
     if !manner.is_unmounted && !made.is_empty() {
         let told = pool.run(move |host| host.mount_made(&made))?;
         tell_unmounted(call, &told);
     }
     call.log(&pool);
     Ok(())
+}
+
+/// Receives one step after another. The file systems that were made.
+fn receive_steps(call: &mut Call, pool: &Arc<PoolThread>, manner: &Manner, begin: &Begin) -> Outcome<Vec<String>> {
+    let (mut top, mut made) = (None, Vec::new());
+    let mut next = read_head(call).map_err(|broken| unreadable(&broken))?;
+    loop {
+        let (step, length) = match next {
+            (Head::End, 0) => return Ok(made),
+            (Head::Step(step), length) => (step.onto(manner.origin.as_deref()), length),
+            _ => return Err(unreadable(&Broken::Damaged)),
+        };
+        let goal = destination(manner, begin, &step.to_name)?;
+        let top = top.get_or_insert_with(|| name::base(&goal).to_owned());
+        let is_top = top == name::base(&goal);
+        next = receive_step(call, pool, manner, step, length, Goal { name: goal, is_top, is_replication: begin.is_replication }, &mut made)?;
+    }
 }
 
 /// Tells what can't be mounted, and that the command ends with status 1 for it.
