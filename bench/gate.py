@@ -31,7 +31,7 @@ PAGE = ROOT / "docs" / "GATE.md"
 TICKS = os.sysconf("SC_CLK_TCK")
 PART = re.compile(r"(\w+): ([\d.]+) s, ([\d.]+) \+ ([\d.]+) of the processors: (.*)")
 # The first line of the page's table, and what ends it.
-TABLE = re.compile(r"(?<=<!-- minutes: written by bench/gate.py -->\n)(?:\|.*\n)+\n(?:- .*\n)*")
+TABLE = re.compile(r"(?<=<!-- minutes: written by bench/gate.py -->\n)(?:\|.*\n)+(?:\n(?:- .*\n)+)?")
 COLUMNS = ("four cores", "two cores", "over kept work")
 
 

@@ -179,6 +179,7 @@ int32_t yuzgont_forget(yuz_pool *pool);
 int32_t yuzgont_create_file_system(yuz_pool *pool, const uint8_t *name, size_t name_length);
 int32_t yuzgont_clone(yuz_pool *pool, const uint8_t *snapshot, size_t snapshot_length, const uint8_t *name, size_t name_length);
 int32_t yuzgont_destroy(yuz_pool *pool, const uint8_t *name, size_t name_length, bool recursive, bool defer);
+int32_t yuzgont_destroy_snapshots(yuz_pool *pool, const uint8_t *names, size_t names_length, bool recursive, bool defer);
 int32_t yuzgont_promote(yuz_pool *pool, const uint8_t *name, size_t name_length);
 int32_t yuzgont_rollback(yuz_pool *pool, const uint8_t *snapshot, size_t snapshot_length, bool later);
 int32_t yuzgont_bookmark(yuz_pool *pool, const uint8_t *snapshot, size_t snapshot_length, const uint8_t *mark, size_t mark_length);
@@ -315,6 +316,13 @@ static inline int yuz_clone(yuz_pool *pool, const char *snapshot, size_t snapsho
 static inline int yuz_destroy(yuz_pool *pool, const char *name, size_t name_length, bool recursive, bool defer) {
     if (pool == NULL || yuz_is_wrong(name, name_length)) return YUZ_NULL;
     return yuzgont_destroy(pool, yuz_bytes(name), name_length, recursive, defer);
+}
+
+/* Destroys snapshots, all or none of them: `names` has a space between two names, as in "p/a@s p/b@s". A name that no snapshot has is passed over;
+ * YUZ_NO_DATASET where none has one. `recursive` and `defer` are as for yuz_destroy. */
+static inline int yuz_destroy_snapshots(yuz_pool *pool, const char *names, size_t names_length, bool recursive, bool defer) {
+    if (pool == NULL || yuz_is_wrong(names, names_length)) return YUZ_NULL;
+    return yuzgont_destroy_snapshots(pool, yuz_bytes(names), names_length, recursive, defer);
 }
 
 /* Gives a clone its origin, with all older snapshots; the file system that had them becomes the clone. */

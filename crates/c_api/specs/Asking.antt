@@ -2,6 +2,7 @@
 use Rattle.std.specs.Prelude.{ℕ, Bool, List, [], ◌∷◌, Option, None, Some, slice_get}
 use Rattle.std.specs.Option.{option_map, option_and_then}
 use Rattle.base.specs.Reading.{name_of, component_of, tag_of, snap_of, mark_of, target_of}
+use Rattle.model.specs.declared.destroy_target.DestroyTarget.TheVariants.{Snapshots as SnapshotsGo}
 use Rattle.model.specs.declared.limits.Limit.{Limit}
 use Rattle.model.specs.declared.receiving.Receiving.{Receiving}
 use Rattle.model.specs.declared.receiving.Receiving.TheVariants.{Plain, Back, Past, Origin, Replace}
@@ -9,6 +10,9 @@ use Rattle.model.specs.declared.request.Property.{Property}
 use Rattle.model.specs.declared.request.PoolProperty.{PoolProperty}
 use Rattle.model.specs.declared.request.Request.{Request}
 use Rattle.model.specs.declared.request.Request.TheVariants.{Create, Write, Punch, FreeObject, Read, Get, Snapshot, Rollback, Destroy, Clone, Promote, OpenView, Hold, Release, Holds, Bookmark, WrittenSince, WouldFree, Set, Send, Receive}
+use Rattle.model.specs.requests.Destroy.{destroy_target_of}
+use Rattle.script.specs.Meaning.{snap_names_of}
+use Rattle.script.specs.Words.{words_of}
 use Rattle.c_api.specs.declared.asking.TheConstants.{PROPERTIES, OF_POOL, LIMITS}
 
 -- a write of a block, where the bytes are a name (profile)
@@ -40,7 +44,11 @@ asked_rollback name later = option_map (λ target. Rollback target later) (targe
 
 -- a destroy of a file system, a snapshot or a bookmark (zfs-destroy(8), -r and -d)
 abbrev pub asked_destroy : List ℕ → Bool → Bool → Option Request
-asked_destroy name recursive defer = option_map (λ target. Destroy target recursive defer) (target_of name)
+asked_destroy name recursive defer = option_map (λ target. Destroy (destroy_target_of target) recursive defer) (target_of name)
+
+-- a destroy of snapshots, all or none: their names, with a space between two (zfs-destroy(8), filesystem@snap,snap)
+abbrev pub asked_destroy_snapshots : List ℕ → Bool → Bool → Option Request
+asked_destroy_snapshots names recursive defer = option_map (λ all. Destroy (SnapshotsGo all) recursive defer) (snap_names_of (words_of names))
 
 -- a clone of a snapshot (zfs-clone(8))
 abbrev pub asked_clone : List ℕ → List ℕ → Option Request

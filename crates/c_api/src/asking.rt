@@ -5,7 +5,7 @@ ghost use Rattle.std.specs.Option.{option_map};
 ghost use Rattle.base.specs.Reading.{Reads, snap_of};
 ghost use Rattle.model.specs.declared.receiving.Receiving.{Receiving};
 ghost use Rattle.c_api.specs.Asking.{asked_write, asked_punch, asked_read, asked_snapshot, asked_get, asked_send_from, asked_receive, mode_at, property_at};
-ghost use Rattle.c_api.specs.Asking.{asked_create, asked_free_object, asked_rollback, asked_destroy, asked_clone, asked_promote, asked_open_view};
+ghost use Rattle.c_api.specs.Asking.{asked_create, asked_free_object, asked_rollback, asked_destroy, asked_destroy_snapshots, asked_clone, asked_promote, asked_open_view};
 ghost use Rattle.c_api.specs.Asking.{asked_hold, asked_release, asked_holds, asked_bookmark, asked_written_since, asked_would_free, asked_set};
 ghost use Rattle.c_api.specs.Asking.{pool_property_at, limit_at};
 
@@ -14,10 +14,12 @@ use base::limit::Blocks;
 use base::name::{Component, DsName, MarkName, SnapName, Tag, Target};
 use base::refusal::Refusal;
 use base::text::Bytes;
+use model::destroy_target::DestroyTarget;
 use model::limits::Limit;
 use model::receiving::Receiving;
 use model::request::{PoolProperty, Property, Request};
 use model::snap_names::SnapNames;
+use script::parse::snap_names;
 use std::alloc::Global;
 
 // The properties that C can ask for, each at its number. `enum yuz_property` of the header names the numbers. The programs in hosts/ compare the
@@ -93,7 +95,24 @@ pub(crate) fn ask_destroy(
 {
     let target = Target::read(alloc, name)?;
     Ok(Request::Destroy {
-        target,
+        target: DestroyTarget::of(alloc, target)?,
+        recursive,
+        defer,
+    })
+}
+
+// Destroys snapshots, all or none.
+pub(crate) fn ask_destroy_snapshots(
+    alloc: Global,
+    names: &[u8],
+    recursive: bool,
+    defer: bool,
+) -> Result<Request, Refusal>
+    ensures { Reads result (asked_destroy_snapshots names.now recursive defer) }
+{
+    let names = snap_names(alloc, names)?;
+    Ok(Request::Destroy {
+        target: DestroyTarget::Snapshots(names),
         recursive,
         defer,
     })

@@ -2,7 +2,7 @@
 ghost use Rattle.std.specs.Prelude.{◌≡◌, Option, Some, IfOk, IfErr, length};
 ghost use Rattle.model.specs.Step.{Step};
 ghost use Rattle.c_api.specs.Answers.{answer_of, number_in, view_in, names_in, stream_in};
-ghost use Rattle.c_api.specs.Asking.{asked_create, asked_clone, asked_destroy, asked_promote, asked_rollback, asked_snapshot, asked_bookmark, asked_hold, asked_release, asked_holds};
+ghost use Rattle.c_api.specs.Asking.{asked_create, asked_clone, asked_destroy, asked_destroy_snapshots, asked_promote, asked_rollback, asked_snapshot, asked_bookmark, asked_hold, asked_release, asked_holds};
 ghost use Rattle.c_api.specs.Asking.{asked_punch, asked_free_object, asked_written_since, asked_would_free, mode_at, property_at, pool_property_at, limit_at};
 ghost use Rattle.script.specs.Words.{amount_of_bytes};
 ghost use Rattle.c_api.specs.Calls.{Does, Asks, KeepsResults, Writes, ReadsBlock, ReadInto, TellsNumber, GetsOf, PoolGetsOf, SetsOf, ReceivesOf, Syncs, Slices, OpensView, Lists, NamesPiece, Sends, Answers, number_told, Forgotten, IsFresh, CanBe, CreateRefused};
@@ -13,10 +13,10 @@ ghost use Rattle.model.specs.declared.request.Request.TheVariants.{Abandon, Clos
 
 use crate::answer::Answer;
 use crate::asking::{
-    ask_bookmark, ask_clone, ask_create, ask_destroy, ask_free_object, ask_get, ask_hold,
-    ask_holds, ask_open_view, ask_promote, ask_punch, ask_read, ask_receive, ask_release,
-    ask_rollback, ask_send, ask_set, ask_snapshot, ask_would_free, ask_write, ask_written_since,
-    limit_of, mode_of, pool_property_of, property_of,
+    ask_bookmark, ask_clone, ask_create, ask_destroy, ask_destroy_snapshots, ask_free_object,
+    ask_get, ask_hold, ask_holds, ask_open_view, ask_promote, ask_punch, ask_read, ask_receive,
+    ask_release, ask_rollback, ask_send, ask_set, ask_snapshot, ask_would_free, ask_write,
+    ask_written_since, limit_of, mode_of, pool_property_of, property_of,
 };
 use crate::pieces::copy_piece;
 use base::refusal::Refusal;
@@ -115,6 +115,14 @@ impl Host {
         ensures { Does (asked_destroy name.now recursive defer) self.old result self.new }
     {
         let request = ask_destroy(self.caller.alloc, name, recursive, defer);
+        self.tell(request)
+    }
+
+    /// Destroys snapshots, all or none of them, as `Request::Destroy`. A space stands between two names.
+    pub fn destroy_snapshots(&mut self, names: &[u8], recursive: bool, defer: bool) -> Answer
+        ensures { Does (asked_destroy_snapshots names.now recursive defer) self.old result self.new }
+    {
+        let request = ask_destroy_snapshots(self.caller.alloc, names, recursive, defer);
         self.tell(request)
     }
 

@@ -540,9 +540,9 @@ impl Table {
         }
     }
 
-    // Whether the file system of this name has the snapshot of this identity. It costs the logarithms of the numbers of file systems and of
-    // snapshots.
-    fn has_snapshot_in(&self, file_system: &DsName, id: SnapshotId) -> bool
+    /// Whether the file system of this name has the snapshot of this identity. It costs the logarithms of the numbers of file systems and of
+    /// snapshots.
+    pub fn has_snapshot_in(&self, file_system: &DsName, id: SnapshotId) -> bool
         ensures { result ≡ is_some (snap_in_system self.now file_system.now (snap_id id)) }
     {
         match self.systems.find(file_system) {

@@ -10,6 +10,8 @@ use Rattle.base.specs.Names.{same_name}
 use Rattle.base.specs.declared.name.member.Member.{Member}
 use Rattle.base.specs.declared.name.target.Target.{Target}
 use Rattle.base.specs.declared.name.target.Target.TheVariants.{FileSystem as OfFileSystem, Snapshot as OfSnapshot, Bookmark as OfBookmark}
+use Rattle.model.specs.declared.destroy_target.DestroyTarget.{DestroyTarget}
+use Rattle.model.specs.declared.destroy_target.DestroyTarget.TheVariants.{FileSystem as SystemGoes, Snapshots as SnapshotsGo, Bookmark as MarkGoes}
 use Rattle.model.specs.Limits.{limited}
 use Rattle.model.specs.declared.limits.Limit.{Limit}
 use Rattle.model.specs.declared.request.Request.{Request}
@@ -90,16 +92,16 @@ turned s name = by_promotion (promotion_of s.now name) refl
     by_promotion (Some p) e = moves s (after_promotion s.now name p) (turned_from s.now name p e)
 
 -- what a destroy leaves
-left_from : (w : World) (needed : Snap → Bool) (target : Target) (recursive : Bool) → AreMapsFrom w.file_systems (after_destroy w needed target recursive).file_systems
-left_from w needed (OfFileSystem name) recursive = retained_maps w.file_systems (λ n. not (list_any (same_name n) (file_systems_named w name recursive)))
-left_from w needed (OfSnapshot m) recursive =
-    let goes : Snap → Bool = λ t. is_one_of (snaps_named w m recursive) t && not (needed t) in
-    let defers : Snap → Bool = λ t. is_one_of (snaps_named w m recursive) t && needed t in
+left_from : (w : World) (needed : Snap → Bool) (target : DestroyTarget) (recursive : Bool) → AreMapsFrom w.file_systems (after_destroy w needed target recursive).file_systems
+left_from w needed (SystemGoes name) recursive = retained_maps w.file_systems (λ n. not (list_any (same_name n) (file_systems_named w name recursive)))
+left_from w needed (SnapshotsGo names) recursive =
+    let goes : Snap → Bool = λ t. is_one_of (snaps_named w names recursive) t && not (needed t) in
+    let defers : Snap → Bool = λ t. is_one_of (snaps_named w names recursive) t && needed t in
     maps_through w.file_systems (without_snaps w goes).file_systems (with_deferred (without_snaps w goes) defers).file_systems
     (without_from w goes) (snaps_changed (without_snaps w goes) (λ (t : Snap). record t { deferred = t.deferred || defers t }) (λ t. refl))
-left_from w needed (OfBookmark m) recursive = changed_from w m.file_system (λ f. record f { bookmarks = remove f.bookmarks m.component }) (λ f x e h. h)
+left_from w needed (MarkGoes m) recursive = changed_from w m.file_system (λ f. record f { bookmarks = remove f.bookmarks m.component }) (λ f x e h. h)
 
-destroyed : (s : State) (needed : Snap → Bool) (target : Target) (recursive : Bool) → MapsStay s (with_now s (with_losses s.now (after_destroy s.now needed target recursive)))
+destroyed : (s : State) (needed : Snap → Bool) (target : DestroyTarget) (recursive : Bool) → MapsStay s (with_now s (with_losses s.now (after_destroy s.now needed target recursive)))
 destroyed s needed target recursive = moves s (with_losses s.now (after_destroy s.now needed target recursive)) (left_from s.now needed target recursive)
 
 tagged : (s : State) (target : Target) (tags : Snap → List (List ℕ)) → MapsStay s (with_now s (option_map_or (λ p. with_tags s.now (id_of p.1) (tags p.1)) (placed s.now target) s.now))

@@ -9,6 +9,8 @@ use Rattle.base.specs.declared.name.target.Target.{Target}
 use Rattle.base.specs.declared.name.target.Target.TheVariants.{FileSystem as OfFileSystem, Snapshot as OfSnapshot, Bookmark as OfBookmark}
 use Rattle.stream.specs.Records.{changes_of}
 use Rattle.stream.specs.Spelling.{Sending}
+use Rattle.model.specs.declared.destroy_target.DestroyTarget.{DestroyTarget}
+use Rattle.model.specs.declared.destroy_target.DestroyTarget.TheVariants.{FileSystem as SystemGoes, Snapshots as SnapshotsGo, Bookmark as MarkGoes}
 use Rattle.model.specs.Limits.{limited}
 use Rattle.model.specs.declared.receiving.Receiving.{Receiving}
 use Rattle.model.specs.declared.request.Request.{Request}
@@ -69,10 +71,10 @@ rolled w target = by_place (placed w target)
     by_place None = refl
     by_place (Some p) = by_snap p.1 (snap_at w (id_of p.1))
 
-destroyed : (w : World) (needed : Snap → Bool) (target : Target) (recursive : Bool) → (after_destroy w needed target recursive).group ≡ w.group
-destroyed w needed (OfFileSystem name) recursive = refl
-destroyed w needed (OfSnapshot m) recursive = refl
-destroyed w needed (OfBookmark m) recursive = same_group w m.file_system (λ f. record f { bookmarks = remove f.bookmarks m.component })
+destroyed : (w : World) (needed : Snap → Bool) (target : DestroyTarget) (recursive : Bool) → (after_destroy w needed target recursive).group ≡ w.group
+destroyed w needed (SystemGoes name) recursive = refl
+destroyed w needed (SnapshotsGo names) recursive = refl
+destroyed w needed (MarkGoes m) recursive = same_group w m.file_system (λ f. record f { bookmarks = remove f.bookmarks m.component })
 
 opened : (s : State) (target : Target) → s.now.group ≤ (option_map_or (λ p. with_view s p.1) (placed s.now target) s).now.group
 opened s target = by_place (placed s.now target)

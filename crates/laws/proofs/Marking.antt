@@ -14,6 +14,8 @@ use Rattle.base.specs.declared.name.target.Target.{Target}
 use Rattle.base.specs.declared.name.target.Target.TheVariants.{FileSystem as OfFileSystem, Snapshot as OfSnapshot, Bookmark as OfBookmark}
 use Rattle.stream.specs.Records.{changes_of}
 use Rattle.stream.specs.Spelling.{Sending}
+use Rattle.model.specs.declared.destroy_target.DestroyTarget.{DestroyTarget}
+use Rattle.model.specs.declared.destroy_target.DestroyTarget.TheVariants.{FileSystem as SystemGoes, Snapshots as SnapshotsGo, Bookmark as MarkGoes}
 use Rattle.model.specs.Limits.{limited}
 use Rattle.model.specs.declared.receiving.Receiving.{Receiving}
 use Rattle.model.specs.declared.receiving.Receiving.TheVariants.{Plain, Back, Past, Origin, Replace}
@@ -129,13 +131,13 @@ removed_kept w m = one_kept w m.file_system (λ f. record f { bookmarks = remove
     (λ (ne : ¬ (at ≡ m.component)). sym (get-remove_other name_order f.bookmarks m.component at ne) ∙ h)
     (key_cases name_order at m.component))
 
-destroyed_kept : (w : World) (needed : Snap → Bool) (target : Target) (recursive : Bool) → MarksKept w (after_destroy w needed target recursive)
-destroyed_kept w needed (OfFileSystem name) recursive = λ a at b (f, is, h).
+destroyed_kept : (w : World) (needed : Snap → Bool) (target : DestroyTarget) (recursive : Bool) → MarksKept w (after_destroy w needed target recursive)
+destroyed_kept w needed (SystemGoes name) recursive = λ a at b (f, is, h).
     (f, (from_retained w.file_systems (λ n. not (list_any (same_name n) (file_systems_named w name recursive))) a f is).1, h)
-destroyed_kept w needed (OfSnapshot m) recursive = λ a at b h.
-    let goes = λ (t : Snap). is_one_of (snaps_named w m recursive) t && not (needed t) in
-    without_kept w goes a at b (deferred_kept (without_snaps w goes) (λ t. is_one_of (snaps_named w m recursive) t && needed t) a at b h)
-destroyed_kept w needed (OfBookmark m) recursive = removed_kept w m
+destroyed_kept w needed (SnapshotsGo names) recursive = λ a at b h.
+    let goes = λ (t : Snap). is_one_of (snaps_named w names recursive) t && not (needed t) in
+    without_kept w goes a at b (deferred_kept (without_snaps w goes) (λ t. is_one_of (snaps_named w names recursive) t && needed t) a at b h)
+destroyed_kept w needed (MarkGoes m) recursive = removed_kept w m
 
 promoted_kept : (w : World) (name : Name) (p : Promotion) → promotion_of w name ≡ Some p → MarksKept w (after_promotion w name p)
 promoted_kept w name p is a at b (f, here, h) =

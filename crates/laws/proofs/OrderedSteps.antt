@@ -17,6 +17,8 @@ use Rattle.base.specs.declared.name.target.Target.{Target}
 use Rattle.base.specs.declared.name.target.Target.TheVariants.{FileSystem as OfFileSystem, Snapshot as OfSnapshot, Bookmark as OfBookmark}
 use Rattle.stream.specs.Records.{changes_of}
 use Rattle.stream.specs.Spelling.{Sending}
+use Rattle.model.specs.declared.destroy_target.DestroyTarget.{DestroyTarget}
+use Rattle.model.specs.declared.destroy_target.DestroyTarget.TheVariants.{FileSystem as SystemGoes, Snapshots as SnapshotsGo, Bookmark as MarkGoes}
 use Rattle.model.specs.Limits.{limited}
 use Rattle.model.specs.declared.receiving.Receiving.{Receiving}
 use Rattle.model.specs.declared.receiving.Receiving.TheVariants.{Plain, Back, Past, Origin, Replace}
@@ -336,17 +338,17 @@ unfolding refusal_of
 rolled s o target later none = losses_ordered (rolled_back s.now target) (rolled_ordered s.now o target
     (row_false (rollback_row s (state_asked s (rollback_rule target later)) target later) none (has_clone_outside s.now [] (newer_snaps s.now target), HasClones) (inr (inr (inr (inr (inl refl))))))) s.now
 
-destroyed : (s : State) → IsOrdered s.now → (target : Target) (recursive defer : Bool) → refusal_of s (destroy_rule target recursive defer) ≡ None
+destroyed : (s : State) → IsOrdered s.now → (target : DestroyTarget) (recursive defer : Bool) → refusal_of s (destroy_rule target recursive defer) ≡ None
     → IsOrdered (with_losses s.now (after_destroy s.now (λ t. defer && is_needed s.now s.views t) target recursive))
 unfolding refusal_of
-destroyed s o (OfFileSystem name) recursive defer none =
+destroyed s o (SystemGoes name) recursive defer none =
     let names = file_systems_named s.now name recursive in
     losses_ordered (without_file_systems s.now names) (systems_gone s.now o names
     (row_false (destroy_system_row s.now s.views name recursive defer) none (has_clone_outside s.now names (snaps_within s.now names), HasClones) (inr (inr (inr (inr (inr (inl refl)))))))) s.now
-destroyed s o (OfSnapshot m) recursive defer none =
-    losses_ordered (after_destroy s.now (λ t. defer && is_needed s.now s.views t) (OfSnapshot m) recursive) (snaps_gone s.now o s.views (snaps_named s.now m recursive) defer
-    (row_false (destroy_snap_row s.now s.views m recursive defer) none (not defer && has_clone_outside s.now [] (snaps_named s.now m recursive), HasClones) (inr (inr (inl refl))))) s.now
-destroyed s o (OfBookmark m) recursive defer none =
+destroyed s o (SnapshotsGo names) recursive defer none =
+    losses_ordered (after_destroy s.now (λ t. defer && is_needed s.now s.views t) (SnapshotsGo names) recursive) (snaps_gone s.now o s.views (snaps_named s.now names recursive) defer
+    (row_false (destroy_snap_row s.now s.views names recursive defer) none (not defer && has_clone_outside s.now [] (snaps_named s.now names recursive), HasClones) (inr (inr (inl refl))))) s.now
+destroyed s o (MarkGoes m) recursive defer none =
     losses_ordered (with_file_system s.now m.file_system (λ f. record f { bookmarks = remove f.bookmarks m.component })) (unmarked_ordered s.now o m) s.now
 
 opened : (s : State) → IsOrdered s.now → (target : Target) → IsOrdered (option_map_or (λ p. with_view s p.1) (placed s.now target) s).now

@@ -10,6 +10,8 @@ use Rattle.base.specs.Surveys.{IsIn}
 use Rattle.base.specs.declared.name.member.Member.{Member}
 use Rattle.base.specs.declared.name.target.Target.{Target}
 use Rattle.base.specs.declared.name.target.Target.TheVariants.{FileSystem as OfFileSystem, Snapshot as OfSnapshot, Bookmark as OfBookmark}
+use Rattle.model.specs.declared.destroy_target.DestroyTarget.{DestroyTarget}
+use Rattle.model.specs.declared.destroy_target.DestroyTarget.TheVariants.{FileSystem as SystemGoes, Snapshots as SnapshotsGo, Bookmark as MarkGoes}
 use Rattle.model.specs.Limits.{limited}
 use Rattle.model.specs.declared.limits.Limit.{Limit}
 use Rattle.model.specs.declared.request.Request.{Request}
@@ -157,12 +159,12 @@ went_to_snap w o target = by_place (placed w target) refl
         (sym (found w o k.0 p.0 p.1 (id_of p.1) k.1 k.2 refl))
         (one_later w k.0 (λ f. back_at f p.1) (λ f at. went_back w.group f p.1 (subst (λ (x : FileSystem). IsIn x.snaps p.1) (same_value p.0 f (sym k.1 ∙ at)) k.2)))
 
-destroyed : (w : World) (needed : Snap → Bool) (target : Target) (recursive : Bool) → IsLater w (after_destroy w needed target recursive)
-destroyed w needed (OfFileSystem name) recursive = left_later w (file_systems_named w name recursive)
-destroyed w needed (OfSnapshot m) recursive =
-    deferred_later w (without_snaps w (λ t. is_one_of (snaps_named w m recursive) t && not (needed t))) (λ t. is_one_of (snaps_named w m recursive) t && needed t)
-    (without_later w w (λ t. is_one_of (snaps_named w m recursive) t && not (needed t)) (same_later w))
-destroyed w needed (OfBookmark m) recursive =
+destroyed : (w : World) (needed : Snap → Bool) (target : DestroyTarget) (recursive : Bool) → IsLater w (after_destroy w needed target recursive)
+destroyed w needed (SystemGoes name) recursive = left_later w (file_systems_named w name recursive)
+destroyed w needed (SnapshotsGo names) recursive =
+    deferred_later w (without_snaps w (λ t. is_one_of (snaps_named w names recursive) t && not (needed t))) (λ t. is_one_of (snaps_named w names recursive) t && needed t)
+    (without_later w w (λ t. is_one_of (snaps_named w names recursive) t && not (needed t)) (same_later w))
+destroyed w needed (MarkGoes m) recursive =
     one_later w m.file_system (λ f. record f { bookmarks = remove f.bookmarks m.component }) (λ f at. went_same w.group f (record f { bookmarks = remove f.bookmarks m.component }) refl refl refl)
 
 tagged : (s : State) (target : Target) (tags : Snap → List (List ℕ))

@@ -1,6 +1,7 @@
 //! Requests, replies, and the definitions of what each request does to a pool.
 #![tactic(auto)]
 
+pub mod destroy_target;
 pub mod entry;
 pub mod limits;
 pub mod names;

@@ -1,6 +1,7 @@
 //! The requests to a pool.
 ghost use Rattle.std.specs.Prelude.{◌≡◌, ◌↔◌, IsTrue};
 
+use crate::destroy_target::DestroyTarget;
 use crate::limits::Limit;
 use crate::receiving::Receiving;
 use crate::snap_names::SnapNames;
@@ -135,14 +136,15 @@ pub enum Request {
         target: Target,
         later: bool,
     },
-    /// Destroys a file system, a snapshot or a bookmark. With `recursive` (zfs-destroy(8): -r) a file system is destroyed with its descendants,
-    /// snapshots and bookmarks, and a snapshot with those of its name in all descendants of its file system. With `defer` (-d) a snapshot that a
-    /// tag, an open view or a clone needs is destroyed once nothing needs it. Blocks that no dataset has any more are to be freed. The reply is
-    /// Done. It is refused with NoDataset where nothing has the name, IsRoot for the root, NotSnapshot for a file system with `defer`,
-    /// HasChildren where a file system has a child or a snapshot and the request isn't recursive, Busy and HasClones where a tag or view, or a
-    /// clone that would stay, needs a snapshot that would be destroyed: the first of these that applies, or NoMemory.
+    /// Destroys a file system, snapshots, or a bookmark. With `recursive` (zfs-destroy(8): -r) a file system is destroyed with its descendants,
+    /// snapshots and bookmarks, and each snapshot with those of its name in all descendants of its file system. With `defer` (-d) a snapshot that
+    /// a tag, an open view or a clone needs is destroyed once nothing needs it. Names of a list that no snapshot has are passed over. Blocks that
+    /// no dataset has any more are to be freed. The reply is Done. It is refused with NoDataset where nothing has the name, or none of the names
+    /// of a list, IsRoot for the root, NotSnapshot for a file system with `defer`, HasChildren where a file system has a child or a snapshot and
+    /// the request isn't recursive, Busy and HasClones where a tag or view, or a clone that would stay, needs a snapshot that would be destroyed:
+    /// the first of these that applies, or NoMemory. Refused, it has destroyed nothing of the list.
     Destroy {
-        target: Target,
+        target: DestroyTarget,
         recursive: bool,
         defer: bool,
     },

@@ -1,8 +1,9 @@
 //! Destroys and rollbacks.
-ghost use Rattle.std.specs.Prelude.{◌≡◌, ◌≤◌, ◌<◌, ◌^◌, ℕ, List, true, false, None, OnErr};
+ghost use Rattle.std.specs.Prelude.{◌≡◌, ◌≤◌, ◌<◌, ◌^◌, ℕ, List, [], ◌∷◌, true, false, None, OnErr};
 ghost use Rattle.std.specs.FinSet as set;
 ghost use Rattle.base.specs.declared.name.member.Member.{Member};
 ghost use Rattle.base.specs.declared.name.target.Target.{Target};
+ghost use Rattle.model.specs.declared.destroy_target.DestroyTarget.{DestroyTarget};
 ghost use Rattle.model.specs.World.{union_of};
 ghost use Rattle.world.specs.Tables.{Datasets, world_of};
 ghost use Rattle.accounts.specs.Limits.{IsUnlimited};
@@ -19,6 +20,7 @@ use crate::worlds::World;
 use base::meter::SegMeter;
 use base::name::Target;
 use datasets::Table;
+use model::destroy_target::DestroyTarget;
 use removals::{destroy, rollback};
 use std::alloc::Global;
 use steps::{Ledger, recount, renew};
@@ -29,7 +31,7 @@ impl Keep {
         &self,
         alloc: Global,
         world: &mut World,
-        target: &Target,
+        target: &DestroyTarget,
         recursive: bool,
         defer: bool,
         segments: &mut SegMeter,
@@ -87,16 +89,16 @@ impl Keep {
     }
 }
 
-// Whether a destroy of the target is certain to change no file system but the target's: the destroy isn't recursive, and the target isn't a
-// clone, since with a clone its deferred origin may be destroyed. It costs the logarithm of the number of file systems.
-fn is_alone(table: &Table, target: &Target, recursive: bool) -> bool
+// Whether a destroy of the target is certain to change no file system but the target's: the destroy isn't recursive, and the target isn't several
+// snapshots or a clone, since with a clone its deferred origin may be destroyed. It costs the logarithm of the number of file systems.
+fn is_alone(table: &Table, target: &DestroyTarget, recursive: bool) -> bool
     ensures one { result ≡ true → recursive ≡ false }
-    ensures origin { result ≡ true → (name : List ℕ) → target.now ≡ Target.FileSystem name → has_deferred_origin table.now name ≡ false }
+    ensures origin { result ≡ true → (name : List ℕ) → target.now ≡ DestroyTarget.FileSystem name → has_deferred_origin table.now name ≡ false }
 {
     if recursive {
         return false;
     }
-    let Target::FileSystem(name) = target else {
+    let DestroyTarget::FileSystem(name) = target else {
         return true;
     };
     match table.find(name) {
@@ -107,20 +109,21 @@ fn is_alone(table: &Table, target: &Target, recursive: bool) -> bool
 
 // Updates the ledger after a destroy of this target, to that of these datasets. `alone` says that the destroy changed one file system only. It
 // allocates nothing. It costs what `recount` does for one file system, nothing for a bookmark, and otherwise what `renew` does.
-fn follow_destroy(ledger: &mut Option<Ledger>, table: &Table, target: &Target, alone: bool)
-    requires system { (name : List ℕ) → target.now ≡ Target.FileSystem name → alone ≡ true → (old : Datasets) × CanRecount old table.now name ledger.old }
-    requires snapshot { (m : Member) → target.now ≡ Target.Snapshot m → alone ≡ true → (old : Datasets) × CanRecount old table.now m.file_system ledger.old }
-    requires bookmark { (m : Member) → target.now ≡ Target.Bookmark m → IsAccounted table.now ledger.old }
+fn follow_destroy(ledger: &mut Option<Ledger>, table: &Table, target: &DestroyTarget, alone: bool)
+    requires system { (name : List ℕ) → target.now ≡ DestroyTarget.FileSystem name → alone ≡ true → (old : Datasets) × CanRecount old table.now name ledger.old }
+    requires snapshot { (m : Member) → target.now ≡ DestroyTarget.Snapshots (m ∷ []) → alone ≡ true → (old : Datasets) × CanRecount old table.now m.file_system ledger.old }
+    requires bookmark { (m : Member) → target.now ≡ DestroyTarget.Bookmark m → IsAccounted table.now ledger.old }
     requires unlimited { ledger.old ≡ None → IsUnlimited table.now.file_systems }
     requires few { set.len (union_of (world_of table.now)) < 2 ^ 32 }
     ensures { IsAccounted table.now ledger.new }
 {
     match target {
-        Target::Snapshot(name) if alone => {
-            recount(ledger, table, &name.member().file_system);
-        }
-        Target::FileSystem(name) if alone => recount(ledger, table, name),
-        Target::Bookmark(_) => {}
+        DestroyTarget::Snapshots(names) if alone => match names.as_slice() {
+            [name] => recount(ledger, table, &name.member().file_system),
+            _ => renew(ledger, table),
+        },
+        DestroyTarget::FileSystem(name) if alone => recount(ledger, table, name),
+        DestroyTarget::Bookmark(_) => {}
         _ => renew(ledger, table),
     }
 }

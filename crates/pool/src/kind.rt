@@ -3,6 +3,7 @@ ghost use Rattle.std.specs.Prelude.{◌≡◌};
 ghost use Rattle.pool.specs.Kinds.{kind_of};
 
 use base::name::{DsName, Target};
+use model::destroy_target::DestroyTarget;
 use model::request::Request;
 
 /// How a request is answered.
@@ -40,7 +41,8 @@ pub(crate) fn kind_of(request: &Request) -> Kind
 }
 
 /// The file system that a write, a punch, a freed object, a rollback, a clone, a destroy, a hold, a release, a bookmark, a promote or a new limit
-/// names first; where that is a snapshot or a bookmark, the file system that it belongs to. None for every other request. Constant time.
+/// names first; where that is a snapshot or a bookmark, the file system that it belongs to. None for every other request, and for a destroy of an
+/// empty list. Constant time.
 pub(crate) fn changed_name(request: &Request) -> Option<&DsName> {
     match request {
         Request::Write { target, .. }
@@ -48,12 +50,24 @@ pub(crate) fn changed_name(request: &Request) -> Option<&DsName> {
         | Request::FreeObject { target, .. }
         | Request::Rollback { target, .. }
         | Request::Clone { target, .. }
-        | Request::Destroy { target, .. }
         | Request::Hold { target, .. }
         | Request::Release { target, .. }
         | Request::Bookmark { target, .. } => Some(file_system_of(target)),
         Request::Promote { name } | Request::Set { name, .. } => Some(name),
+        Request::Destroy { target, .. } => first_file_system(target),
         _ => None,
+    }
+}
+
+// The file system that a destroy names, or that what it names first belongs to; none for an empty list.
+fn first_file_system(target: &DestroyTarget) -> Option<&DsName> {
+    match target {
+        DestroyTarget::FileSystem(name) => Some(name),
+        DestroyTarget::Snapshots(names) => {
+            let first = names.as_slice().first()?;
+            Some(&first.member().file_system)
+        }
+        DestroyTarget::Bookmark(name) => Some(&name.member().file_system),
     }
 }
 

@@ -6,11 +6,11 @@ use Rattle.std.specs.FinMap as finmap
 use Rattle.std.specs.FinMap.{contains_key, len}
 use Rattle.base.specs.declared.number.Key.{Key}
 use Rattle.base.specs.declared.refusal.Refusal.{Refusal}
-use Rattle.base.specs.declared.refusal.Refusal.TheVariants.{Exists, NoParent, TooMany}
+use Rattle.base.specs.declared.refusal.Refusal.TheVariants.{Exists, NoParent, TooMany, NoDataset, Deferred, WrongSource}
 use Rattle.base.specs.Map.{Map, Cell, blocks}
 use Rattle.node.specs.Unique.{IsUnique}
 use Rattle.model.specs.Sums.{size_without}
-use Rattle.model.specs.World.{World}
+use Rattle.model.specs.World.{World, Snap, snap_named}
 use Rattle.base.specs.declared.name.member.Member.{Member}
 use Rattle.base.specs.declared.number.Guid.{Guid}
 use Rattle.stream.specs.Spelling.{Sending, source_guid}
@@ -19,10 +19,12 @@ use Rattle.model.specs.declared.receiving.Receiving.{Receiving}
 use Rattle.model.specs.State.{Views}
 use Rattle.model.specs.Rule.{Row, first_of}
 use Rattle.model.specs.requests.Create.{create_refusal}
-use Rattle.model.specs.requests.Receive.{same_map, has_no_room, new_row, full_row, incremental_row}
+use Rattle.model.specs.requests.Receive.{same_map, has_no_room, new_row, origin_row, full_row, incremental_row}
 use Rattle.datasets.specs.Rows.{snap_count}
 use Rattle.world.specs.Tables.{Datasets, world_of}
+use Rattle.std.specs.Option.{option_map_or}
 use Rattle.world.proofs.lists.Maps.{same_value, no_value}
+use Rattle.world.proofs.views.ViewedRequests.{rest_none}
 use Rattle.removals.proofs.Rooms.{snaps_counted}
 use Rattle.receives.specs.Requests.{receive_refusal}
 use Rattle.receives.proofs.Alike.{decides_map, same_by_counts, counts_of_same}
@@ -103,14 +105,6 @@ incremental_none t views m s mode none g is = by_source (s.source == 0) none is
     by_source true e k = absurd (no_value g k)
     by_source false e k = subst (λ (x : Guid). first_of (incremental_row (world_of t) views m x.0 mode) ≡ None) (same_value (record { 0 = s.source }) g k) e
 
--- the rest of a row that refuses nothing
-pub rest_none : (r : Bool × Refusal) (rs : Row) → first_of (r ∷ rs) ≡ None → first_of rs ≡ None
-rest_none r rs e = by_first r.0 e
-  where
-    by_first : (b : Bool) → cond b (Some r.1) (first_of rs) ≡ None → first_of rs ≡ None
-    by_first true k = absurd (no_value r.1 (sym k))
-    by_first false k = k
-
 -- a file system can be made
 pub can_make : (w : World) (name : List ℕ) → first_of (new_row w name) ≡ None → create_refusal w.file_systems name ≡ None
 unfolding create_refusal
@@ -121,3 +115,11 @@ can_make w name = by_tests (contains_key w.file_systems name) (not (has_parent w
     by_tests false true many full k = absurd (no_value NoParent (sym k))
     by_tests false false true full k = absurd (no_value TooMany (sym k))
     by_tests false false false full k = refl
+
+-- also where a row of a clone refuses nothing
+pub can_clone : (w : World) (name : List ℕ) (origin : Member) (source : ℕ) → first_of (origin_row w name origin source) ≡ None → create_refusal w.file_systems name ≡ None
+can_clone w name origin source none =
+    let from = snap_named w origin in
+    let last : Bool × Refusal = (not (option_map_or (λ (t : Snap). t.guid == source) from false), WrongSource) in
+    let next : Bool × Refusal = (option_map_or (λ (t : Snap). t.deferred) from false, Deferred) in
+    can_make w name (rest_none last (new_row w name) (rest_none next (last ∷ new_row w name) (rest_none (not (is_some from), NoDataset) (next ∷ last ∷ new_row w name) none)))

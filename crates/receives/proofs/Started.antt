@@ -17,7 +17,7 @@ use Rattle.model.specs.requests.Receive.{new_row, origin_row, full_row, incremen
 use Rattle.world.specs.Tables.{Datasets, world_of}
 use Rattle.world.proofs.views.ViewedReceives.{no_full}
 use Rattle.receives.specs.Requests.{receive_refusal}
-use Rattle.receives.proofs.Refusals.{full_none, incremental_none, can_make, rest_none}
+use Rattle.receives.proofs.Refusals.{full_none, incremental_none, can_make, can_clone}
 
 module _ (t : Datasets) (views : Views) (m : Member) (s : Sending) (mode : Receiving) (none : receive_refusal t views m s mode ≡ None) where
   -- a stream in full that replaces none makes a file system
@@ -38,9 +38,4 @@ module _ (t : Datasets) (views : Views) (m : Member) (s : Sending) (mode : Recei
       origin_none = subst (λ x. first_of (incremental_row (world_of t) views m g.0 x) ≡ None) is (incremental_none t views m s mode none g source)
 
       pub starts_free : create_refusal t.file_systems m.file_system ≡ None
-      starts_free =
-          let from = snap_named (world_of t) origin in
-          let last : Bool × Refusal = (not (option_map_or (λ (u : Snap). u.guid == g.0) from false), WrongSource) in
-          let next : Bool × Refusal = (option_map_or (λ (u : Snap). u.deferred) from false, Deferred) in
-          let rest = new_row (world_of t) m.file_system in
-          can_make (world_of t) m.file_system (rest_none last rest (rest_none next (last ∷ rest) (rest_none (not (is_some from), NoDataset) (next ∷ last ∷ rest) origin_none)))
+      starts_free = can_clone (world_of t) m.file_system origin g.0 origin_none

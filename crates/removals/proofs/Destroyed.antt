@@ -4,18 +4,16 @@ use Rattle.std.proofs.lemmas.List.{map-append, take_more}
 use Rattle.std.specs.Prelude.{nat_lt, is_some}
 use Rattle.std.specs.List.{filter, flat_map, list_any}
 use Rattle.std.specs.Option.{option_map, option_map_or}
-use Rattle.std.specs.FinMap.{get, keys, same_map}
+use Rattle.std.specs.FinMap.{get, same_map}
 use Rattle.base.specs.declared.refusal.Refusal.TheVariants.{NoDataset, Busy, HasClones}
 use Rattle.base.specs.declared.refusal.Refusal.{Refusal}
-use Rattle.base.specs.Names.{same_name, is_descendant}
-use Rattle.base.specs.Surveys.{IsIn, AreDifferent}
+use Rattle.base.specs.Surveys.{IsIn}
 use Rattle.base.specs.declared.name.member.Member.{Member}
-use Rattle.base.specs.declared.name.target.Target.TheVariants.{Snapshot as OfSnapshot}
-use Rattle.model.specs.World.{World, FileSystem, Snap, SnapId, id_of, same_id, snap_named, family_of}
+use Rattle.model.specs.declared.destroy_target.DestroyTarget.TheVariants.{Snapshots as SnapshotsGo}
+use Rattle.model.specs.World.{World, FileSystem, Snap, SnapId, id_of, same_id, snap_named}
 use Rattle.model.specs.State.{Views}
 use Rattle.model.specs.Outcome.{is_needed}
 use Rattle.model.specs.Edits.{without_snaps}
-use Rattle.model.specs.requests.Snapshot.{named_with}
 use Rattle.model.specs.requests.Destroy.{is_one_of, snaps_named, with_deferred}
 use Rattle.datasets.specs.Holders.{snap_in_system}
 use Rattle.datasets.specs.Rows.{snaps_at}
@@ -23,13 +21,11 @@ use Rattle.world.specs.Shapes.{Name, name_order}
 use Rattle.world.specs.Worlds.{AreFileSystems}
 use Rattle.world.specs.Tables.{Datasets, world_of, without_snap, deferred_snap}
 use Rattle.world.proofs.removals.Sweep.{get-with_file_systems}
-use Rattle.world.proofs.lists.Finding.{append_none, any_none, or_none, from_flat, in_filter, same_id_is}
-use Rattle.world.proofs.lists.Listed.{in_map, map_in, length-mapped}
-use Rattle.world.proofs.lists.Lists.{once_filter}
+use Rattle.world.proofs.lists.Finding.{any_none, or_none, from_flat, in_filter, same_id_is}
+use Rattle.world.proofs.lists.Listed.{map_in, length-mapped}
 use Rattle.world.proofs.lists.Maps.{no_value}
 use Rattle.world.proofs.lineage.Bridge.{one_snap}
-use Rattle.world.proofs.removals.WithoutSnaps.{any_from, get-without, without_twice, without_none}
-use Rattle.snap.specs.Taking.{all_of}
+use Rattle.world.proofs.removals.WithoutSnaps.{get-without, without_twice, without_none}
 use Rattle.removals.specs.Found.{found_in, AreThere, removed_or_deferred}
 use Rattle.removals.specs.Needs.{has_clone, is_held}
 use Rattle.removals.specs.Requests.{destroy_refusal}
@@ -37,19 +33,10 @@ use Rattle.removals.proofs.Clones.{outside_is}
 use Rattle.removals.proofs.Deferring.{marked_by, by_one, deferred_none, deferred_twice, deferred_gone}
 use Rattle.removals.proofs.Identified.{neither, one_of_more}
 use Rattle.removals.proofs.Needed.{any_alike, is_held_at, held_at, named_there, found_there, system_at}
-use Rattle.removals.proofs.Once.{names_once}
 use Rattle.removals.proofs.Seen.{any_value}
 use Rattle.removals.proofs.Swept.{same_clones}
 
 -- ---- what is found
-
--- the name of its file system
-abbrev pub owner_of : Name × Snap → Name
-owner_of p = p.0
-
--- what one name stands for
-pub named_is : (t : Datasets) (m : Member) (recursive : Bool) → all_of t (m ∷ []) recursive ≡ named_with (world_of t) recursive m
-named_is t m recursive = append_none (named_with (world_of t) recursive m)
 
 -- the identities
 pub found_ids : (t : Datasets) (ms : List Member) → map (λ (p : Name × Snap). id_of p.1) (found_in t ms) ≡ flat_map (λ m. option_map_or (λ (s : Snap). id_of s ∷ []) (snap_named (world_of t) m) []) ms
@@ -78,36 +65,6 @@ found_there_all t ms p i =
         (λ k. absurd k)
         j
 
--- the file systems of what is found stand among those of the names
-found_among : (t : Datasets) (ms : List Member) (n : Name) → IsIn (map owner_of (found_in t ms)) n → IsIn (map (λ (m : Member). m.file_system) ms) n
-found_among t [] n i = i
-found_among t (m ∷ ms) n i = by_snap (found_among t ms n) (snap_named (world_of t) m) i
-  where
-    by_snap : (IsIn (map owner_of (found_in t ms)) n → IsIn (map (λ (q : Member). q.file_system) ms) n) → (x : Option Snap) → IsIn (map owner_of (option_map_or {U = List (Name × Snap)} (λ (s : Snap). (m.file_system, s) ∷ []) x [] ++ found_in t ms)) n → IsIn (map (λ (q : Member). q.file_system) (m ∷ ms)) n
-    by_snap rest None k = inr (rest k)
-    by_snap rest (Some s) k = ⊎_elim (λ e. inl e) (λ h. inr (rest h)) k
-
-found_once : (t : Datasets) (ms : List Member) → AreDifferent (map (λ (m : Member). m.file_system) ms) → AreDifferent (map owner_of (found_in t ms))
-found_once t [] d = tt
-found_once t (m ∷ ms) d = by_snap (snap_named (world_of t) m) (found_once t ms d.1)
-  where
-    by_snap : (x : Option Snap) → AreDifferent (map owner_of (found_in t ms)) → AreDifferent (map owner_of (option_map_or {U = List (Name × Snap)} (λ (s : Snap). (m.file_system, s) ∷ []) x [] ++ found_in t ms))
-    by_snap None ih = ih
-    by_snap (Some s) ih = ((λ i. d.0 (found_among t ms m.file_system i)), ih)
-
--- each name of a request is of another file system
-named_once : (t : Datasets) (m : Member) (recursive : Bool) → AreDifferent (map (λ (q : Member). q.file_system) (named_with (world_of t) recursive m))
-named_once t m false = ((λ i. i), tt)
-named_once t m true = subst AreDifferent (sym (same_names (family_of (world_of t) m.file_system)))
-    (once_filter name_order (λ n. same_name n m.file_system || is_descendant m.file_system n) (keys t.file_systems) (names_once t.file_systems))
-  where
-    same_names : (ns : List Name) → map (λ (q : Member). q.file_system) (map (λ (n : Name). record { file_system = n; component = m.component }) ns) ≡ ns
-    same_names [] = refl
-    same_names (n ∷ ns) = ap (λ l. n ∷ l) (same_names ns)
-
-pub each_once : (t : Datasets) (m : Member) (recursive : Bool) → AreDifferent (map owner_of (found_in t (named_with (world_of t) recursive m)))
-each_once t m recursive = found_once t (named_with (world_of t) recursive m) (named_once t m recursive)
-
 -- one more of them
 pub more_ids : (all : List (Name × Snap)) (i : ℕ) (p : Name × Snap) → i < length all → p ≡ get_or all i p
     → map (λ (q : Name × Snap). id_of q.1) (take (i + 1) all) ≡ map (λ (q : Name × Snap). id_of q.1) (take i all) ++ id_of p.1 ∷ []
@@ -119,21 +76,6 @@ pub in_place : {A : Type 0} (xs : List A) (i : ℕ) (x : A) → i < length xs �
 in_place [] i x lt is = absurd (omega arith)
 in_place (y ∷ ys) zero x lt is = inl is
 in_place (y ∷ ys) (suc i) x lt is = inr (in_place ys i x (omega arith) is)
-
-in_taken : {A : Type 0} (xs : List A) (i : ℕ) (x : A) → IsIn (take i xs) x → IsIn xs x
-in_taken [] zero x k = k
-in_taken [] (suc i) x k = k
-in_taken (y ∷ ys) zero x k = absurd k
-in_taken (y ∷ ys) (suc i) x k = ⊎_elim (λ e. inl e) (λ h. inr (in_taken ys i x h)) k
-
--- those before it are others
-others_before : {A B : Type 0} (f : A → B) (xs : List A) (i : ℕ) (x : A) → i < length xs → x ≡ get_or xs i x → AreDifferent (map f xs) → (y : A) → IsIn (take i xs) y → f y ≡ f x → ⊥
-others_before f [] i x lt is d y k e = absurd (omega arith)
-others_before f (z ∷ zs) zero x lt is d y k e = absurd k
-others_before f (z ∷ zs) (suc i) x lt is d y k e = ⊎_elim
-    (λ (same : y ≡ z). d.0 (subst (λ b. IsIn (map f zs) b) (sym e ∙ ap f same) (map_in f zs x (in_place zs i x (omega arith) is))))
-    (λ h. others_before f zs i x (omega arith) is d.1 y h e)
-    k
 
 -- all of them
 pub whole_ids : (all : List (Name × Snap)) (i : ℕ) → length all ≤ i → take i all ≡ all
@@ -148,26 +90,26 @@ refusal_found t views defer all =
     cond (not (nat_lt 0 (length all))) (Some NoDataset)
     (cond (not defer && list_any (λ p. is_held views p.1) all) (Some Busy) (cond (not defer && list_any (λ p. has_clone t (id_of p.1)) all) (Some HasClones) None))
 
-module _ (t : Datasets) (good : AreFileSystems t.file_systems t.group) (views : Views) (m : Member) (recursive defer : Bool) (all : List (Name × Snap))
-    (ids : map (λ (p : Name × Snap). id_of p.1) all ≡ snaps_named (world_of t) m recursive) (there : AreThere t all) where
-  held : list_any (is_held_at t views) (snaps_named (world_of t) m recursive) ≡ list_any (λ (p : Name × Snap). is_held views p.1) all
+module _ (t : Datasets) (good : AreFileSystems t.file_systems t.group) (views : Views) (names : List Member) (recursive defer : Bool) (all : List (Name × Snap))
+    (ids : map (λ (p : Name × Snap). id_of p.1) all ≡ snaps_named (world_of t) names recursive) (there : AreThere t all) where
+  held : list_any (is_held_at t views) (snaps_named (world_of t) names recursive) ≡ list_any (λ (p : Name × Snap). is_held views p.1) all
   held =
       ap (list_any (is_held_at t views)) (sym ids) ∙ sym (any_value (λ (p : Name × Snap). id_of p.1) (is_held_at t views) all)
       ∙ any_alike (λ (p : Name × Snap). is_held_at t views (id_of p.1)) (λ p. is_held views p.1) all
       (λ p i. let k = system_at t p.0 p.1 (there p i) in held_at t good views p.0 k.0 p.1 k.1 k.2)
 
-  cloned : list_any (has_clone t) (snaps_named (world_of t) m recursive) ≡ list_any (λ (p : Name × Snap). has_clone t (id_of p.1)) all
+  cloned : list_any (has_clone t) (snaps_named (world_of t) names recursive) ≡ list_any (λ (p : Name × Snap). has_clone t (id_of p.1)) all
   cloned = ap (list_any (has_clone t)) (sym ids) ∙ sym (any_value (λ (p : Name × Snap). id_of p.1) (has_clone t) all)
 
-  count : length (snaps_named (world_of t) m recursive) ≡ length all
+  count : length (snaps_named (world_of t) names recursive) ≡ length all
   count = ap length (sym ids) ∙ length-mapped (λ (p : Name × Snap). id_of p.1) all
 
-  pub refusal_is : destroy_refusal t views (OfSnapshot m) recursive defer ≡ refusal_found t views defer all
+  pub refusal_is : destroy_refusal t views (SnapshotsGo names) recursive defer ≡ refusal_found t views defer all
   refusal_is = λ i. cond {A = Option Refusal} (not (nat_lt 0 (count i))) (Some NoDataset)
-      (cond (not defer && held i) (Some Busy) (cond (not defer && (outside_is t (snaps_named (world_of t) m recursive) ∙ cloned) i) (Some HasClones) None))
+      (cond (not defer && held i) (Some Busy) (cond (not defer && (outside_is t (snaps_named (world_of t) names recursive) ∙ cloned) i) (Some HasClones) None))
 
   -- where nothing refuses it, none has a clone
-  pub none_cloned : destroy_refusal t views (OfSnapshot m) recursive defer ≡ None → (not defer && list_any (λ (p : Name × Snap). has_clone t (id_of p.1)) all) ≡ false
+  pub none_cloned : destroy_refusal t views (SnapshotsGo names) recursive defer ≡ None → (not defer && list_any (λ (p : Name × Snap). has_clone t (id_of p.1)) all) ≡ false
   none_cloned e =
       by_tests (nat_lt 0 (length all)) (not defer && list_any (λ (p : Name × Snap). is_held views p.1) all) (not defer && list_any (λ (p : Name × Snap). has_clone t (id_of p.1)) all)
       (sym refusal_is ∙ e)
@@ -315,25 +257,28 @@ module _ (t : Datasets) (good : AreFileSystems t.file_systems t.group) (needed :
           marks_alike false true k h = absurd (true≢false h)
           marks_alike false false k h = refl
 
--- whose turn it is, it is there
-module _ (t : Datasets) (good : AreFileSystems t.file_systems t.group) (needed : Snap → Bool) (all : List (Name × Snap)) (there : AreThere t all) (once : AreDifferent (map owner_of all))
-    (i : ℕ) (p : Name × Snap) (lt : i < length all) (is : p ≡ get_or all i p) where
-  abbrev before : List SnapId
-  before = map (λ (q : Name × Snap). id_of q.1) (take i all)
+      -- that goes twice changes nothing: where it isn't there any more, it was one of them
+      pub gone_already : is_some (snap_in_system (removed_or_deferred t needed ids) name (id_of s)) ≡ false → removed_or_deferred t needed ids ≡ removed_or_deferred t needed more
+      gone_already out = ap (λ ss. record t { file_systems = ss })
+          (alike_after (world_of t) goes_of marks_of (λ u. is_one_of more u && not (needed u)) (λ u. is_one_of more u && needed u)
+          (λ n g u there j. ap (λ b. b && not (needed u)) (same u)) (λ n g u there j e. ap (λ b. b && needed u) (same u)))
+        where
+          or_false : (a : Bool) → (a || false) ≡ a
+          or_false true = refl
+          or_false false = refl
 
-  not_before : is_one_of before p.1 ≡ false
-  not_before = by_test (is_one_of before p.1) refl
-    where
-      by_test : (b : Bool) → is_one_of before p.1 ≡ b → is_one_of before p.1 ≡ false
-      by_test false e = e
-      by_test true e =
-          let q = in_map (λ (q : Name × Snap). id_of q.1) (take i all) (id_of p.1) (any_from before (id_of p.1) e) in
-          let k = system_at t q.0.0 q.0.1 (there q.0 (in_taken all i q.0 q.1)) in
-          let h = system_at t p.0 p.1 (there p (in_place all i p lt is)) in
-          absurd (others_before owner_of all i p lt is once q.0 q.1 (one_snap t.file_systems t.group good.lines q.0.0 p.0 k.0 h.0 q.0.1 p.1 k.1 h.1 k.2 h.2 (sym q.2)).0)
+          or_true : (a : Bool) → (a || true) ≡ true
+          or_true true = refl
+          or_true false = refl
 
-  pub turn_there : (u : Datasets) → u ≡ removed_or_deferred t needed before → is_some (snap_in_system u p.0 (id_of p.1)) ≡ true
-  turn_there u so_far =
-      let h = system_at t p.0 p.1 (there p (in_place all i p lt is)) in
-      ap (λ (v : Datasets). is_some (snap_in_system v p.0 (id_of p.1))) so_far
-      ∙ parted_there t good needed before p.0 h.0 p.1 h.1 h.2 not_before
+          one : (b : Bool) → is_one_of ids s ≡ b → is_one_of ids s ≡ true
+          one true e = e
+          one false e = absurd (true≢false (sym (parted_there name f s at i e) ∙ out))
+
+          by_test : (u : Snap) (b : Bool) → is_it u ≡ b → is_one_of ids u ≡ (is_one_of ids u || b)
+          by_test u false e = sym (or_false (is_one_of ids u))
+          by_test u true e = ap (λ k. list_any (same_id k) ids) (same_id_is (id_of u) (id_of s) e) ∙ one (is_one_of ids s) refl
+              ∙ sym (or_true (is_one_of ids u))
+
+          same : (u : Snap) → is_one_of ids u ≡ is_one_of more u
+          same u = by_test u (is_it u) refl ∙ sym (one_more u)

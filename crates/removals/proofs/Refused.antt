@@ -8,7 +8,7 @@ use Rattle.std.proofs.lemmas.Bool.{lt-ltb}
 use Rattle.base.specs.Surveys.{IsIn}
 use Rattle.base.specs.declared.refusal.Refusal.{Refusal}
 use Rattle.base.specs.declared.refusal.Refusal.TheVariants.{NoDataset, NotSnapshot, Busy, HasClones, HasChildren, IsRoot}
-use Rattle.base.specs.declared.name.target.Target.TheVariants.{FileSystem as OfFileSystem}
+use Rattle.model.specs.declared.destroy_target.DestroyTarget.TheVariants.{FileSystem as SystemGoes}
 use Rattle.base.specs.Names.{root_name, same_name, parent_of}
 use Rattle.model.specs.World.{FileSystem, Snap, SnapId, id_of, children_of, family_of}
 use Rattle.model.specs.State.{Views}
@@ -92,7 +92,7 @@ module _ (t : Datasets) (views : Views) (name : List ℕ) (recursive defer : Boo
       (cond (list_any (is_held_at t views) (snaps_within (world_of t) going)) (Some Busy)
       (cond (has_clone_outside (world_of t) going (snaps_within (world_of t) going)) (Some HasClones) None)))))
 
-  pub refused_gone : get t.file_systems name ≡ None → destroy_refusal t views (OfFileSystem name) recursive defer ≡ Some NoDataset
+  pub refused_gone : get t.file_systems name ≡ None → destroy_refusal t views (SystemGoes name) recursive defer ≡ Some NoDataset
   refused_gone at = ap held_of at
 
 module _ (t : Datasets) (good : AreFileSystems t.file_systems t.group) (views : Views) (name : List ℕ) (defer : Bool) (f : FileSystem) (at : get t.file_systems name ≡ Some f) where
@@ -103,7 +103,7 @@ module _ (t : Datasets) (good : AreFileSystems t.file_systems t.group) (views : 
   abbrev cloned : Bool
   cloned = has_clone_outside (world_of t) (name ∷ []) (snaps_within (world_of t) (name ∷ []))
 
-  pub refused_there : (recursive : Bool) → destroy_refusal t views (OfFileSystem name) recursive defer
+  pub refused_there : (recursive : Bool) → destroy_refusal t views (SystemGoes name) recursive defer
       ≡ refusal_with (same_name name root_name) recursive defer (nat_lt 0 (length (children_of (world_of t) name))) (length f.snaps) (family_refusal t views name)
   refused_there true = ap (held_of t views name true defer) at
       ∙ (λ i. cond {A = Option Refusal} (same_name name root_name) (Some IsRoot) (cond defer (Some NotSnapshot)
@@ -156,7 +156,7 @@ other_name name other e = true≢false (sym (ap (same_name name) e ∙ name_itse
 
 -- where the destroy of one isn't refused, it isn't the root; and without its descendants it may be removed
 module _ (t : Datasets) (good : AreFileSystems t.file_systems t.group) (views : Views) (name : List ℕ) (recursive defer : Bool)
-    (none : destroy_refusal t views (OfFileSystem name) recursive defer ≡ None) where
+    (none : destroy_refusal t views (SystemGoes name) recursive defer ≡ None) where
   pub root_stays : same_name name root_name ≡ false
   root_stays = by_system (get t.file_systems name) refl
     where
@@ -187,7 +187,7 @@ module _ (t : Datasets) (good : AreFileSystems t.file_systems t.group) (views : 
       by_system None at = absurd (no_refusal NoDataset (sym (refused_gone t views name recursive defer at) ∙ none))
       by_system (Some f) at = clones_inside t good name (by_tests (same_name name root_name) defer (family_held t views name) (list_any (is_outside_clone t name) (entries t.file_systems))
           (has_children t name) (length f.snaps)
-          (sym (refused_there t good views name defer f at true) ∙ subst (λ b. destroy_refusal t views (OfFileSystem name) b defer ≡ None) all none))
+          (sym (refused_there t good views name defer f at true) ∙ subst (λ b. destroy_refusal t views (SystemGoes name) b defer ≡ None) all none))
 
   pub may_remove : recursive ≡ false → CanRemoveFileSystem t name
   may_remove single = by_system (get t.file_systems name) refl
@@ -204,7 +204,7 @@ module _ (t : Datasets) (good : AreFileSystems t.file_systems t.group) (views : 
       by_system : (x : Option FileSystem) → get t.file_systems name ≡ x → CanRemoveFileSystem t name
       by_system None at = absurd (no_refusal NoDataset (sym (refused_gone t views name recursive defer at) ∙ none))
       by_system (Some f) at =
-          let free = bare_of (same_name name root_name) defer f (sym (refused_there t good views name defer f at false) ∙ subst (λ b. destroy_refusal t views (OfFileSystem name) b defer ≡ None) single none) in
+          let free = bare_of (same_name name root_name) defer f (sym (refused_there t good views name defer f at false) ∙ subst (λ b. destroy_refusal t views (SystemGoes name) b defer ≡ None) single none) in
           record {
             system = f;
             there = at;

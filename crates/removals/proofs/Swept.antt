@@ -7,7 +7,7 @@ use Rattle.std.specs.FinMap.{get, entries, same_map}
 use Rattle.std.proofs.lemmas.Bool.{and_parts}
 use Rattle.base.specs.Surveys.{IsIn}
 use Rattle.base.specs.declared.name.member.Member.{Member}
-use Rattle.base.specs.declared.name.target.Target.TheVariants.{Snapshot as OfSnapshot}
+use Rattle.model.specs.declared.destroy_target.DestroyTarget.TheVariants.{Snapshots as SnapshotsGo}
 use Rattle.model.specs.World.{World, FileSystem, Snap, SnapId, id_of, same_id, snap_at, snaps_of}
 use Rattle.model.specs.State.{Views, is_viewed}
 use Rattle.model.specs.Outcome.{is_needed}
@@ -301,9 +301,9 @@ module _ (t : Datasets) (once : IsOneToAnId t) (views : Views) (ids : List SnapI
 
 -- ---- a destroy of snapshots leaves nothing to sweep
 
-module _ (t : Datasets) (views : Views) (clean : IsSweptBy t views) (m : Member) (recursive defer : Bool) where
+module _ (t : Datasets) (views : Views) (clean : IsSweptBy t views) (names : List Member) (recursive defer : Bool) where
   abbrev one_of : Snap → Bool
-  one_of u = is_one_of (snaps_named (world_of t) m recursive) u
+  one_of u = is_one_of (snaps_named (world_of t) names recursive) u
 
   abbrev waits : Snap → Bool
   waits u = defer && is_needed (world_of t) views u
@@ -318,7 +318,7 @@ module _ (t : Datasets) (views : Views) (clean : IsSweptBy t views) (m : Member)
   marked u = record u { deferred = u.deferred || marks u }
 
   abbrev after : Datasets
-  after = destroyed t views (OfSnapshot m) recursive defer
+  after = destroyed t views (SnapshotsGo names) recursive defer
 
   abbrev marked_in : FileSystem → FileSystem
   marked_in f = record f { snaps = map marked f.snaps }
@@ -346,7 +346,7 @@ module _ (t : Datasets) (views : Views) (clean : IsSweptBy t views) (m : Member)
       by_marks false true false false h = refl
       by_marks false false e false h = refl
 
-  pub none_swept : swept (destroyed t views (OfSnapshot m) recursive defer) views ≡ destroyed t views (OfSnapshot m) recursive defer
+  pub none_swept : swept (destroyed t views (SnapshotsGo names) recursive defer) views ≡ destroyed t views (SnapshotsGo names) recursive defer
   none_swept = none_without after (λ u. u.deferred && not (is_needed (world_of after) views u)) (λ n f u at i. by_system n f u i (get (without t goes).file_systems n) refl (sym (after_at n) ∙ at))
     where
       by_system : (n : Name) (f : FileSystem) (u : Snap) → IsIn f.snaps u → (x : Option FileSystem) → get (without t goes).file_systems n ≡ x

@@ -8,6 +8,7 @@ use Rattle.base.specs.declared.refusal.Refusal.{Refusal}
 use Rattle.base.specs.declared.refusal.Refusal.TheVariants.{NotNewest, Busy, HasClones}
 use Rattle.base.specs.declared.name.member.Member.{Member}
 use Rattle.base.specs.declared.name.target.Target.{Target}
+use Rattle.model.specs.declared.destroy_target.DestroyTarget.{DestroyTarget}
 use Rattle.datasets.specs.Origins.{origin_group}
 use Rattle.datasets.specs.Writes.{newest_group}
 use Rattle.model.specs.World.{FileSystem, Snap, SnapId, id_of, same_id}
@@ -43,7 +44,7 @@ refusal_at t f group views later =
     else refusal_after t f group views
 
 -- the datasets after a destroy (zfs-destroy(8))
-abbrev pub destroyed : Datasets → Views → Target → Bool → Bool → Datasets
+abbrev pub destroyed : Datasets → Views → DestroyTarget → Bool → Bool → Datasets
 destroyed t views target recursive defer =
     record t { file_systems = (after_destroy (world_of t) (λ u. defer && is_needed (world_of t) views u) target recursive).file_systems }
 
@@ -60,7 +61,7 @@ abbrev pub without_bookmark : Datasets → Member → Datasets
 without_bookmark t m = with_marks t m.file_system (λ bookmarks. remove bookmarks m.component)
 
 -- why a destroy is refused, if it is (zfs-destroy(8))
-abbrev pub destroy_refusal : Datasets → Views → Target → Bool → Bool → Option Refusal
+abbrev pub destroy_refusal : Datasets → Views → DestroyTarget → Bool → Bool → Option Refusal
 destroy_refusal t views target recursive defer = first_of (destroy_row (world_of t) views target recursive defer)
 
 -- the datasets without the snapshots whose destroy is deferred and that nothing needs (zfs-destroy(8), -d)

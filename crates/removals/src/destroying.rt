@@ -1,7 +1,7 @@
 //! Destroys of file systems, snapshots and bookmarks.
 ghost use Rattle.std.specs.Prelude.{◌≡◌, ◌≤◌, ◌⊎◌, ◌&&◌, not, true, false, Some, None, IfSome, IfErr, OnOk, OnErr};
 ghost use Rattle.base.specs.declared.refusal.Refusal.{Refusal};
-ghost use Rattle.base.specs.declared.name.target.Target.{Target};
+ghost use Rattle.model.specs.declared.destroy_target.DestroyTarget.{DestroyTarget};
 ghost use Rattle.base.specs.Names.{root_name};
 ghost use Rattle.model.specs.World.{union_of};
 ghost use Rattle.world.specs.Sets.{AreDisjoint};
@@ -16,10 +16,11 @@ use crate::gone::destroy_snapshots;
 use crate::sweep::sweep;
 use crate::working_copy::WorkingCopy;
 use base::meter::SegMeter;
-use base::name::{DsName, Target};
+use base::name::DsName;
 use base::refusal::Refusal;
 use datasets::Table;
 use destroyer::Freeing;
+use model::destroy_target::DestroyTarget;
 use std::alloc::Global;
 use views::Views;
 
@@ -93,13 +94,13 @@ fn destroy_file_systems(
 ) -> Result<(), Refusal>
     requires apart { AreDisjoint (union_of (world_of table.old)) freeing.old }
     requires swept { IsSweptBy table.old views.now.opened }
-    ensures ok { OnOk result (table.new ≡ swept (destroyed table.old views.now.opened (Target.FileSystem name.now) recursive defer) views.now.opened) }
+    ensures ok { OnOk result (table.new ≡ swept (destroyed table.old views.now.opened (DestroyTarget.FileSystem name.now) recursive defer) views.now.opened) }
     ensures lost { OnOk result (HasLost table.old freeing.old table.new freeing.new) }
-    ensures can { OnOk result (destroy_refusal table.old views.now.opened (Target.FileSystem name.now) recursive defer ≡ None) }
-    ensures refused { IfSome (destroy_refusal table.old views.now.opened (Target.FileSystem name.now) recursive defer) (λ e. (result ≡ Err e) ⊎ (result ≡ Err Refusal.NoMemory)) }
+    ensures can { OnOk result (destroy_refusal table.old views.now.opened (DestroyTarget.FileSystem name.now) recursive defer ≡ None) }
+    ensures refused { IfSome (destroy_refusal table.old views.now.opened (DestroyTarget.FileSystem name.now) recursive defer) (λ e. (result ≡ Err e) ⊎ (result ≡ Err Refusal.NoMemory)) }
     ensures unchanged { OnErr result (table.new ≡ table.old) }
     ensures kept { OnErr result (freeing.new ≡ freeing.old) }
-    ensures only { IfErr result (λ e. (destroy_refusal table.old views.now.opened (Target.FileSystem name.now) recursive defer ≡ Some e) ⊎ (e ≡ Refusal.NoMemory)) }
+    ensures only { IfErr result (λ e. (destroy_refusal table.old views.now.opened (DestroyTarget.FileSystem name.now) recursive defer ≡ Some e) ⊎ (e ≡ Refusal.NoMemory)) }
     ensures never_lower { segments.old ≤ segments.new }
 {
     table.facts();
@@ -112,11 +113,11 @@ fn destroy_file_systems(
     remove_and_sweep(alloc, table, freeing, views, name, recursive, segments)
 }
 
-/// Destroys the file system, snapshot or bookmark of this name (zfs-destroy(8)). The blocks that no dataset has any more are to be freed. With
-/// `recursive` a file system is destroyed with its descendants and all their snapshots, and a snapshot with the snapshots of the same name of
-/// all descendants of its file system. With `defer` a snapshot stays while a tag or one of these views keeps it or it has a clone, and is
+/// Destroys a file system, snapshots, all or none of them, or a bookmark (zfs-destroy(8)). The blocks that no dataset has any more are to be
+/// freed. With `recursive` a file system is destroyed with its descendants and all their snapshots, and each snapshot with the snapshots of the
+/// same name of all descendants of its file system. With `defer` a snapshot stays while a tag or one of these views keeps it or it has a clone, and is
 /// destroyed once nothing needs it. So the destroy of a clone also destroys its origin, where that one's destroy is deferred and only the clone
-/// needed it. A bookmark is destroyed alone, whatever `recursive` and `defer` are. Refused are NoDataset where nothing has the name; of a file
+/// needed it. A bookmark is destroyed alone, whatever `recursive` and `defer` are. Refused are NoDataset where nothing has the name, or none of the names of snapshots; of a file
 /// system IsRoot for the root, else NotSnapshot with `defer`, else HasChildren where it has a child or a snapshot and `recursive` isn't set;
 /// else Busy where a tag or one of these views keeps a snapshot that would be destroyed, else HasClones where such a snapshot has a clone that
 /// wouldn't be. NoMemory, where memory is refused, may come before the refusals of a snapshot. At `Err` the table and what it has to free are as
@@ -134,7 +135,7 @@ pub fn destroy(
     table: &mut Table,
     freeing: &mut Freeing,
     views: &Views,
-    target: &Target,
+    target: &DestroyTarget,
     recursive: bool,
     defer: bool,
     segments: &mut SegMeter,
@@ -151,12 +152,12 @@ pub fn destroy(
     ensures never_lower { segments.old ≤ segments.new }
 {
     match target {
-        Target::FileSystem(name) => destroy_file_systems(
+        DestroyTarget::FileSystem(name) => destroy_file_systems(
             alloc, table, freeing, views, name, recursive, defer, segments,
         ),
-        Target::Snapshot(name) => destroy_snapshots(
-            alloc, table, freeing, views, name, recursive, defer, segments,
+        DestroyTarget::Snapshots(names) => destroy_snapshots(
+            alloc, table, freeing, views, names, recursive, defer, segments,
         ),
-        Target::Bookmark(name) => remove_bookmark(alloc, table, name),
+        DestroyTarget::Bookmark(name) => remove_bookmark(alloc, table, name),
     }
 }

@@ -1,7 +1,7 @@
 //! The removal of file systems, alone or with their descendants.
 ghost use Rattle.std.specs.Prelude.{◌≡◌, ◌≤◌, ◌||◌, true, false, IfErr, OnOk, OnErr, length, nat_lt};
 ghost use Rattle.base.specs.declared.refusal.Refusal.{Refusal};
-ghost use Rattle.base.specs.declared.name.target.Target.{Target};
+ghost use Rattle.model.specs.declared.destroy_target.DestroyTarget.{DestroyTarget};
 ghost use Rattle.base.specs.Names.{root_name};
 ghost use Rattle.model.specs.World.{union_of, children_of};
 ghost use Rattle.world.specs.Sets.{AreDisjoint};
@@ -150,7 +150,7 @@ pub(crate) fn refusal_of(
     recursive: bool,
     defer: bool,
 ) -> Option<Refusal>
-    ensures { result ≡ destroy_refusal table.now views.now.opened (Target.FileSystem name.now) recursive defer }
+    ensures { result ≡ destroy_refusal table.now views.now.opened (DestroyTarget.FileSystem name.now) recursive defer }
 {
     table.facts();
     let Some(file_system) = table.find(name) else {

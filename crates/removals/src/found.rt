@@ -1,10 +1,9 @@
 //! The snapshots that a destroy finds by their names.
-ghost use Rattle.std.specs.Prelude.{◌≡◌, ◌&&◌, Bool, map, IfOk, IfErr};
+ghost use Rattle.std.specs.Prelude.{◌≡◌, ◌&&◌, Bool, List, map, IfOk, IfErr};
 ghost use Rattle.std.specs.List.{list_any};
 ghost use Rattle.base.specs.declared.refusal.Refusal.{Refusal};
-ghost use Rattle.base.specs.Surveys.{AreDifferent};
 ghost use Rattle.base.specs.declared.name.member.Member.{Member};
-ghost use Rattle.base.specs.declared.name.target.Target.{Target};
+ghost use Rattle.model.specs.declared.destroy_target.DestroyTarget.{DestroyTarget};
 ghost use Rattle.model.specs.Outcome.{is_needed};
 ghost use Rattle.model.specs.World.{id_of};
 ghost use Rattle.model.specs.requests.Destroy.{snaps_named};
@@ -20,7 +19,6 @@ use datasets::{Snapshot, Table};
 use snap::{Named, expand};
 use std::alloc::Global;
 use std::marker::Model;
-use std::slice::from_ref;
 use views::Views;
 
 /// A snapshot that was found by its name, with the name of its file system: a request or a table lends both. Contracts see the pair.
@@ -66,22 +64,21 @@ fn found_of<'a>(
     Ok(all)
 }
 
-/// The snapshot of this name, or with `recursive` the snapshots of that name of its file system and of each descendant, as far as there are any.
-/// No two are of the same file system. NoMemory where memory is refused. With `recursive` it costs the number of file systems; and for each name
-/// the logarithm of that, and that of the number of snapshots of one.
+/// The snapshots of these names, and with `recursive` for each name those of that name of each descendant of its file system, as far as there are
+/// any. One that two names stand for stands twice. NoMemory where memory is refused. With `recursive` it costs for each name the number of file
+/// systems; and for each snapshot that is asked for the logarithm of that, and that of the number of snapshots of one.
 pub(crate) fn find_all<'a>(
     alloc: Global,
     table: &'a Table,
-    name: &'a SnapName,
+    names: &'a [SnapName],
     recursive: bool,
 ) -> Result<Vec<Found<'a>>, Refusal>
-    ensures ids { IfOk result (λ all. map (λ p. id_of p.1) all.items ≡ snaps_named (world_of table.now) name.now recursive) }
+    ensures ids { IfOk result (λ all. map (λ p. id_of p.1) all.items ≡ snaps_named (world_of table.now) names.now recursive) }
     ensures there { IfOk result (λ all. AreThere table.now all.items) }
-    ensures once { IfOk result (λ all. AreDifferent (map (λ p. p.0) all.items)) }
     ensures err { IfErr result (λ e. e ≡ Refusal.NoMemory) }
 {
-    let names = expand(alloc, table, from_ref(name), recursive)?;
-    found_of(alloc, table, &names)
+    let all = expand(alloc, table, names, recursive)?;
+    found_of(alloc, table, &all)
 }
 
 // Whether a tag or an open view keeps one of these snapshots. It costs for each the number of open views.
@@ -98,7 +95,8 @@ fn any_cloned(table: &Table, all: &[Found]) -> bool
     all.iter().any(|found| table.has_clone(found.snapshot.id()))
 }
 
-/// The refusal of the destroy of these snapshots, if any (zfs-destroy(8)). They are all the snapshots of the table that a name stands for.
+/// The refusal of the destroy of these snapshots, if any (zfs-destroy(8)). They are all the snapshots of the table that a list of names stands
+/// for.
 /// NoDataset where there is none; else, without `defer`, Busy where a tag or an open view keeps one of them, else HasClones where one of them
 /// has a clone. Without `defer` it costs for each the number of open views and the logarithm of the number of clones.
 pub(crate) fn refusal_of(
@@ -108,7 +106,7 @@ pub(crate) fn refusal_of(
     defer: bool,
 ) -> Option<Refusal>
     requires there { AreThere table.now all.now }
-    ensures { (name : Member) (recursive : Bool) → map (λ p. id_of p.1) all.now ≡ snaps_named (world_of table.now) name recursive → result ≡ destroy_refusal table.now views.now.opened (Target.Snapshot name) recursive defer }
+    ensures { (names : List Member) (recursive : Bool) → map (λ p. id_of p.1) all.now ≡ snaps_named (world_of table.now) names recursive → result ≡ destroy_refusal table.now views.now.opened (DestroyTarget.Snapshots names) recursive defer }
 {
     table.facts();
     if all.is_empty() {

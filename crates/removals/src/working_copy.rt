@@ -3,7 +3,6 @@ ghost use Rattle.std.specs.Prelude.{◌≡◌, ◌≤◌, ◌⊎◌, ◌↔◌, 
 ghost use Rattle.std.specs.List.{list_any};
 ghost use Rattle.std.specs.FinMap.{get};
 ghost use Rattle.base.specs.declared.refusal.Refusal.{Refusal};
-ghost use Rattle.base.specs.Surveys.{AreDifferent};
 ghost use Rattle.datasets.specs.Holders.{snap_in_system};
 ghost use Rattle.datasets.specs.Losses.{newest_map};
 ghost use Rattle.datasets.specs.Rows.{live_of, snaps_at, with_live};
@@ -114,7 +113,7 @@ impl WorkingCopy {
         self.to.defer(alloc, file_system, id)
     }
 
-    // Removes these snapshots. They are the table's, and no two are of the same file system. With `defer` those stay that a tag, one of these views
+    // Removes these snapshots, which are the table's. One may stand twice. With `defer` those stay that a tag, one of these views
     // or a clone needs, and their destroy is deferred. Without `defer`, none of them has a clone. NoMemory where memory is refused; on error,
     // discard the edit. It costs for each what `remove_snapshot` or `Table::defer` does, and with `defer` the number of open views.
     pub(crate) fn remove_or_defer(
@@ -129,7 +128,6 @@ impl WorkingCopy {
         requires apart { AreDisjoint (union_of (world_of self.old.to)) self.old.freeing }
         requires same { self.old.to ≡ table.now }
         requires there { AreThere table.now all.now }
-        requires once { AreDifferent (map (λ p. p.0) all.now) }
         requires no_clone { (not defer && list_any (λ p. has_clone table.now (id_of p.1)) all.now) ≡ false }
         ensures ok { OnOk result (self.new.to ≡ removed_or_deferred table.now (λ u. defer && is_needed (world_of table.now) views.now.opened u) (map (λ p. id_of p.1) all.now)) }
         ensures lost { OnOk result (HasLost self.old.to self.old.freeing self.new.to self.new.freeing) }
@@ -139,6 +137,10 @@ impl WorkingCopy {
         table.facts();
         for found in all {
             let id = found.snapshot.id();
+            if !self.to.has_snapshot_in(found.file_system, id) {
+                // It stood before, and is gone.
+                continue;
+            }
             if has_to_wait(table, views, found.snapshot, defer) {
                 self.defer(alloc, found.file_system, id)?;
             } else {

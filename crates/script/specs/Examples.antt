@@ -5,6 +5,7 @@ use Rattle.std.specs.FinMap as finmap
 use Rattle.base.specs.declared.refusal.Refusal.TheVariants.{BadName, NoDataset, BadLine}
 use Rattle.base.specs.declared.name.target.Target.TheVariants.{FileSystem, Snapshot, Bookmark}
 use Rattle.model.specs.declared.request.Property.TheVariants.{Used, Available, Referenced, Written, UsedByDataset, UsedBySnapshots, UsedByChildren, UsedByRefReservation, Quota, RefQuota, Reservation, RefReservation, Guid, CreateTxg, Origin, Clones, UserRefs, DeferDestroy}
+use Rattle.model.specs.declared.destroy_target.DestroyTarget.TheVariants as destroys
 use Rattle.model.specs.declared.limits.Limit.TheVariants as limits
 use Rattle.model.specs.declared.receiving.Receiving.TheVariants.{Plain, Back}
 use Rattle.model.specs.declared.request.PoolProperty.TheVariants.{Free, Freeing}
@@ -52,19 +53,19 @@ pub record WorkedLines : Type 0 where
   pub rollback_option_last : meaning (codes "rollback p@s -r") ≡ Faulty BadLine
   pub rollback_none : meaning (codes "rollback -r") ≡ Faulty BadLine
   pub rollback_bad_name : meaning (codes "rollback -r p@") ≡ Faulty BadName
-  pub destroy : meaning (codes "destroy p/a") ≡ Asks (Destroy (FileSystem (codes "p/a")) false false)
+  pub destroy : meaning (codes "destroy p/a") ≡ Asks (Destroy (destroys.FileSystem (codes "p/a")) false false)
   pub destroy_all :
       meaning (codes "destroy -r p@s")
-      ≡ Asks (Destroy (Snapshot (record { file_system = codes "p"; component = codes "s" })) true false)
+      ≡ Asks (Destroy (destroys.Snapshots (record { file_system = codes "p"; component = codes "s" } ∷ [])) true false)
   pub destroy_deferred :
       meaning (codes "destroy -d p@s")
-      ≡ Asks (Destroy (Snapshot (record { file_system = codes "p"; component = codes "s" })) false true)
+      ≡ Asks (Destroy (destroys.Snapshots (record { file_system = codes "p"; component = codes "s" } ∷ [])) false true)
   pub destroy_all_deferred :
       meaning (codes "destroy -r -d p@s")
-      ≡ Asks (Destroy (Snapshot (record { file_system = codes "p"; component = codes "s" })) true true)
+      ≡ Asks (Destroy (destroys.Snapshots (record { file_system = codes "p"; component = codes "s" } ∷ [])) true true)
   pub remove_bookmark :
       meaning (codes "destroy p#s")
-      ≡ Asks (Destroy (Bookmark (record { file_system = codes "p"; component = codes "s" })) false false)
+      ≡ Asks (Destroy (destroys.Bookmark (record { file_system = codes "p"; component = codes "s" })) false false)
   pub destroy_turned : meaning (codes "destroy -d -r p@s") ≡ Faulty BadLine
   pub destroy_two : meaning (codes "destroy p/a p/b") ≡ Faulty BadLine
   pub destroy_bad_name : meaning (codes "destroy p//a") ≡ Faulty BadName

@@ -11,6 +11,7 @@ use Rattle.base.specs.Reading.{name_of, snap_of, mark_of, tag_of, target_of}
 use Rattle.model.specs.declared.receiving.Receiving.TheVariants.{Plain, Back}
 use Rattle.model.specs.declared.request.Request.{Request}
 use Rattle.model.specs.declared.request.Request.TheVariants.{Create, Write, Punch, FreeObject, Snapshot, Read, Get, PoolGet, List as ListNames, Rollback, Destroy, Slice, Sync, Abandon, OpenView, CloseView, Clone, Promote, Hold, Release, Holds, Bookmark, WrittenSince, WouldFree, Set, Send, Receive}
+use Rattle.model.specs.requests.Destroy.{destroy_target_of}
 use Rattle.script.specs.Lines.{line_limit}
 use Rattle.script.specs.Words.{is_printable, words_of, is_word, number_of_word, block_of_word, bytes_of_word, property_of_word, pool_property_of_word, at_equals, limit_of_word, amount_of_word, since_word, file_system_of, word_within, snap_within}
 
@@ -122,7 +123,7 @@ rollback_of operands =
 -- `[-d] TARGET`: a destroy (zfs-destroy(8))
 unfoldable pub destroyed_of : Bool → List (List ℕ) → Meaning
 destroyed_of recursive operands =
-    target_request_of (λ target. Destroy target recursive (has_option (codes "-d") operands)) (after_option (codes "-d") operands)
+    target_request_of (λ target. Destroy (destroy_target_of target) recursive (has_option (codes "-d") operands)) (after_option (codes "-d") operands)
 
 -- `destroy [-r] [-d] TARGET` (zfs-destroy(8))
 unfoldable pub destroy_of : List (List ℕ) → Meaning

@@ -19,6 +19,7 @@ use base::data::Data;
 use base::name::{DsName, MarkName, SnapName, Tag, Target};
 use base::refusal::Refusal;
 use base::text::same_bytes;
+use model::destroy_target::DestroyTarget;
 use model::request::{PoolProperty, Request};
 use model::snap_names::SnapNames;
 use std::alloc::Global;
@@ -290,9 +291,10 @@ fn snapshots(alloc: Global, operands: Option<&[u8]>, recursive: bool) -> Result<
     Ok(Request::Snapshot { names, recursive })
 }
 
-// The snapshots that the words name, in their order.
+/// The snapshots that the words name, in their order; the words are separated by single spaces. BadName where one of them isn't a snapshot's
+/// name, NoMemory where there is no memory for the names.
 #[tactic(auto, using(crate::proofs::SnapWords::names_kept))]
-fn snap_names(alloc: Global, words: &[u8]) -> Result<SnapNames, Refusal>
+pub fn snap_names(alloc: Global, words: &[u8]) -> Result<SnapNames, Refusal>
     ensures { Reads result (snap_names_of (words_of words.now)) }
 {
     let mut names = Vec::new(alloc);
@@ -341,7 +343,7 @@ fn destroyed(alloc: Global, operands: Option<&[u8]>, recursive: bool) -> Result<
     let (defer, rest) = leading_option(operands, b"-d");
     let target = lone_target(alloc, rest)?;
     Ok(Request::Destroy {
-        target,
+        target: DestroyTarget::of(alloc, target)?,
         recursive,
         defer,
     })

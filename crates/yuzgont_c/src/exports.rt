@@ -2,7 +2,7 @@
 //! ([`Answer::code`](c_api::Answer)), and has that call's contract.
 ghost use Rattle.std.specs.Prelude.{◌≡◌, Some, None};
 ghost use Rattle.c_api.specs.Answers.{Codes};
-ghost use Rattle.c_api.specs.Asking.{asked_create, asked_clone, asked_destroy, asked_promote, asked_rollback, asked_snapshot, asked_bookmark, asked_hold, asked_release, asked_holds};
+ghost use Rattle.c_api.specs.Asking.{asked_create, asked_clone, asked_destroy, asked_destroy_snapshots, asked_promote, asked_rollback, asked_snapshot, asked_bookmark, asked_hold, asked_release, asked_holds};
 ghost use Rattle.c_api.specs.Asking.{asked_punch, asked_free_object, asked_written_since, asked_would_free, mode_at, property_at, pool_property_at, limit_at};
 ghost use Rattle.script.specs.Words.{amount_of_bytes};
 ghost use Rattle.c_api.specs.Calls.{Calls, Creates, Does, Writes, ReadsBlock, TellsNumber, GetsOf, PoolGetsOf, SetsOf, ReceivesOf, Syncs, Slices, OpensView, Lists, NamesPiece, Sends, Answers, RepliesPiece, StreamsPiece, Forgotten};
@@ -245,6 +245,21 @@ pub extern "C" fn yuzgont_destroy(
     ensures { Codes result (λ answer. Calls (Does (asked_destroy name.now recursive defer)) pool.old.slot.host answer pool.new.slot.host) }
 {
     pool.destroy(alloc, name, recursive, defer).code()
+}
+
+/// Destroys snapshots, all or none of them, as `YuzPool::destroy_snapshots`.
+#[unsafe(no_mangle)]
+pub extern "C" fn yuzgont_destroy_snapshots(
+    alloc: Global,
+    pool: &mut YuzPool,
+    names: &[u8],
+    recursive: bool,
+    defer: bool,
+) -> i32
+    ensures { Codes result (λ answer. Calls (Does (asked_destroy_snapshots names.now recursive defer)) pool.old.slot.host answer pool.new.slot.host) }
+{
+    pool.destroy_snapshots(alloc, names, recursive, defer)
+        .code()
 }
 
 /// Promotes a clone, as `YuzPool::promote`.

@@ -119,6 +119,17 @@ impl Pool {
         Error::check(unsafe { sys::yuzgont_destroy(self.handle(), name.as_ptr(), name.len(), recursive, defer) })
     }
 
+    /// Lets snapshots go, all or none of them: with `recursive` also those of their names below, with `defer` once nothing needs them. Names that no
+    /// snapshot has are passed over; `NoDataset` where none has one. `BadName` where the list is empty.
+    pub fn destroy_snapshots(&mut self, names: &[&str], recursive: bool, defer: bool) -> Result<(), Error> {
+        // A name with a space would be two.
+        if names.iter().any(|name| name.contains(' ')) {
+            return Err(Error::BadName);
+        }
+        let names = names.join(" ");
+        Error::check(unsafe { sys::yuzgont_destroy_snapshots(self.handle(), names.as_ptr(), names.len(), recursive, defer) })
+    }
+
     /// Gives a clone its origin, with all older snapshots.
     pub fn promote(&mut self, name: &str) -> Result<(), Error> {
         Error::check(unsafe { sys::yuzgont_promote(self.handle(), name.as_ptr(), name.len()) })

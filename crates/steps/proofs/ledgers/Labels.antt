@@ -5,7 +5,7 @@ use Rattle.std.specs.FinMap.{FinMap, insert, remove}
 use Rattle.base.specs.Names.{name_cmp}
 use Rattle.base.specs.declared.name.member.Member.{Member}
 use Rattle.base.specs.declared.name.target.Target.{Target}
-use Rattle.base.specs.declared.name.target.Target.TheVariants.{Bookmark as OfBookmark}
+use Rattle.model.specs.declared.destroy_target.DestroyTarget.TheVariants.{Bookmark as MarkGoes}
 use Rattle.model.specs.World.{FileSystem, Snap, SnapId, Bookmark, id_of, same_id}
 use Rattle.model.specs.State.{State}
 use Rattle.model.specs.Edits.{with_tags, with_file_system}
@@ -108,10 +108,10 @@ bookmark_accounted s target mark steady = accounted_alike (datasets_of s) (bookm
 
 -- one that goes
 pub unmarked_accounted : (s : State) (m : Member) (recursive defer : Bool) → IsSteady s
-    → AreFileSystems (swept (destroyed (datasets_of s) s.views (OfBookmark m) recursive defer) s.views).file_systems s.now.group
+    → AreFileSystems (swept (destroyed (datasets_of s) s.views (MarkGoes m) recursive defer) s.views).file_systems s.now.group
     → (lines : Option (List Line)) → IsAccounted (datasets_of s) lines
-    → IsAccounted (swept (destroyed (datasets_of s) s.views (OfBookmark m) recursive defer) s.views) lines
+    → IsAccounted (swept (destroyed (datasets_of s) s.views (MarkGoes m) recursive defer) s.views) lines
 unmarked_accounted s m recursive defer steady good lines kept =
-    accounted_alike (datasets_of s) (swept (destroyed (datasets_of s) s.views (OfBookmark m) recursive defer) s.views) steady.good.now.systems good
+    accounted_alike (datasets_of s) (swept (destroyed (datasets_of s) s.views (MarkGoes m) recursive defer) s.views) steady.good.now.systems good
     (subst (λ (d : Datasets). AreAlikeBut (datasets_of s) d []) (sym (marks_swept (datasets_of s) m.file_system (λ marks. remove marks m.component) s.views steady.swept))
     (marks_alike (datasets_of s) m.file_system (λ marks. remove marks m.component))) lines kept

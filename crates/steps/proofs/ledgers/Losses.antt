@@ -7,7 +7,9 @@ use Rattle.base.specs.Map.{Map}
 use Rattle.base.specs.Surveys.{IsIn}
 use Rattle.base.specs.declared.name.member.Member.{Member}
 use Rattle.base.specs.declared.name.target.Target.{Target}
-use Rattle.base.specs.declared.name.target.Target.TheVariants.{FileSystem as OfFileSystem, Snapshot as OfSnapshot}
+use Rattle.base.specs.declared.name.target.Target.TheVariants.{Snapshot as OfSnapshot}
+use Rattle.model.specs.declared.destroy_target.DestroyTarget.{DestroyTarget}
+use Rattle.model.specs.declared.destroy_target.DestroyTarget.TheVariants.{FileSystem as SystemGoes, Snapshots as SnapshotsGo}
 use Rattle.model.specs.World.{FileSystem, Snap, SnapId, id_of, same_id, snap_named}
 use Rattle.model.specs.Outcome.{is_needed}
 use Rattle.model.specs.State.{State}
@@ -200,22 +202,22 @@ module _ (s : State) (steady : IsSteady s) where
           subst (λ (d : Datasets). AreAlikeBut t d (m.file_system ∷ [])) (sym same) (by_due (k.system, p.1) k.at k.among _ refl)
 
   -- a destroy of one snapshot
-  pub destroy_one : (m : Member) (defer : Bool) → AreAlikeBut (datasets_of s) (swept (destroyed (datasets_of s) s.views (OfSnapshot m) false defer) s.views) (m.file_system ∷ [])
-  destroy_one m defer = subst (λ (d : Datasets). AreAlikeBut t d (m.file_system ∷ [])) (sym (none_swept t s.views clean m false defer))
-      (deferred_one t m.file_system goes (λ q f u ne at i. ap (λ b. b && not (needed u)) (another q f u ne at i (snap_named (world_of t) m) refl)) (λ u. is_one_of (snaps_named (world_of t) m false) u && needed u))
+  pub destroy_one : (m : Member) (defer : Bool) → AreAlikeBut (datasets_of s) (swept (destroyed (datasets_of s) s.views (SnapshotsGo (m ∷ [])) false defer) s.views) (m.file_system ∷ [])
+  destroy_one m defer = subst (λ (d : Datasets). AreAlikeBut t d (m.file_system ∷ [])) (sym (none_swept t s.views clean (m ∷ []) false defer))
+      (deferred_one t m.file_system goes (λ q f u ne at i. ap (λ b. b && not (needed u)) (another q f u ne at i (snap_named (world_of t) m) refl)) (λ u. is_one_of (snaps_named (world_of t) (m ∷ []) false) u && needed u))
     where
       needed : Snap → Bool
       needed u = defer && is_needed (world_of t) s.views u
 
       goes : Snap → Bool
-      goes u = is_one_of (snaps_named (world_of t) m false) u && not (needed u)
+      goes u = is_one_of (snaps_named (world_of t) (m ∷ []) false) u && not (needed u)
 
       or_none : (b : Bool) → b ≡ false → (b || false) ≡ false
       or_none true e = e
       or_none false e = refl
 
       another : (q : Name) (f : FileSystem) (u : Snap) → ¬ (q ≡ m.file_system) → get t.file_systems q ≡ Some f → IsIn f.snaps u
-          → (x : Option Snap) → snap_named (world_of t) m ≡ x → is_one_of (snaps_named (world_of t) m false) u ≡ false
+          → (x : Option Snap) → snap_named (world_of t) m ≡ x → is_one_of (snaps_named (world_of t) (m ∷ []) false) u ≡ false
       another q f u ne at i None e = ap (λ x. is_one_of (option_map_or (λ (v : Snap). id_of v ∷ []) x [] ++ []) u) e
       another q f u ne at i (Some v) e =
           let k = named_there t m v e in
@@ -224,11 +226,11 @@ module _ (s : State) (steady : IsSteady s) where
 
   -- a destroy of a file system that nothing goes with
   destroy_alone : (name : Name) (defer : Bool) → has_deferred_origin (datasets_of s) name ≡ false
-      → AreAlikeBut (datasets_of s) (swept (destroyed (datasets_of s) s.views (OfFileSystem name) false defer) s.views) (name ∷ [])
+      → AreAlikeBut (datasets_of s) (swept (destroyed (datasets_of s) s.views (SystemGoes name) false defer) s.views) (name ∷ [])
   destroy_alone name defer stays = subst (λ (d : Datasets). AreAlikeBut t d (name ∷ [])) alone
       (without_alike t name)
     where
-      alone : without_system t name ≡ swept (destroyed t s.views (OfFileSystem name) false defer) s.views
+      alone : without_system t name ≡ swept (destroyed t s.views (SystemGoes name) false defer) s.views
       alone = sym (nothing_swept t good s.views clean name stays) ∙ ap (λ v. swept v s.views) (one_gone t name)
 
   -- the close of a view
@@ -254,14 +256,14 @@ module _ (s : State) (steady : IsSteady s) where
       subst (λ (d : Datasets). CanRecount t d m.file_system lines) (sym new)
       (can_recount t (swept (released_in t tag (OfSnapshot m)) s.views) good (release_can s tag (OfSnapshot m) steady).steady.good.now.systems m.file_system (release_one tag m) lines kept)
 
-  pub destroy_counted : (target : Target) (recursive defer : Bool) (m : Member) → target ≡ OfSnapshot m → recursive ≡ false
+  pub destroy_counted : (target : DestroyTarget) (recursive defer : Bool) (m : Member) → target ≡ SnapshotsGo (m ∷ []) → recursive ≡ false
       → (to : Datasets) → AreFileSystems to.file_systems to.group → to ≡ swept (destroyed (datasets_of s) s.views target recursive defer) s.views
       → (lines : Option (List Line)) → IsAccounted (datasets_of s) lines → CanRecount (datasets_of s) to m.file_system lines
   destroy_counted target recursive defer m is alone to there led lines kept =
       let new = led ∙ (λ i. swept (destroyed t s.views (is i) (alone i) defer) s.views) in
       can_recount t to good there m.file_system (subst (λ (d : Datasets). AreAlikeBut t d (m.file_system ∷ [])) (sym new) (destroy_one m defer)) lines kept
 
-  pub alone_counted : (target : Target) (recursive defer : Bool) (name : Name) → target ≡ OfFileSystem name → recursive ≡ false → has_deferred_origin (datasets_of s) name ≡ false
+  pub alone_counted : (target : DestroyTarget) (recursive defer : Bool) (name : Name) → target ≡ SystemGoes name → recursive ≡ false → has_deferred_origin (datasets_of s) name ≡ false
       → (to : Datasets) → AreFileSystems to.file_systems to.group → to ≡ swept (destroyed (datasets_of s) s.views target recursive defer) s.views
       → (lines : Option (List Line)) → IsAccounted (datasets_of s) lines → CanRecount (datasets_of s) to name lines
   alone_counted target recursive defer name is alone stays to there led lines kept =

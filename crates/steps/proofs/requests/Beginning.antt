@@ -43,7 +43,7 @@ use Rattle.world.proofs.steps.StateSteps.{clone_before}
 use Rattle.world.proofs.views.Viewed.{IsSafe, snap_found, one_changed}
 use Rattle.world.proofs.views.ViewedReceives.{no_full, no_incremental, replaced_there, replaced_bare, replaced_idle, replaced_alone, past_idle, past_alone, from_named, from_source, snap_within, vacated_safe}
 use Rattle.world.proofs.views.ViewedRequests.{back_safe}
-use Rattle.receives.proofs.Refusals.{rest_none, can_make}
+use Rattle.receives.proofs.Refusals.{can_make, can_clone}
 use Rattle.removals.specs.Edits.{HasLost}
 use Rattle.removals.specs.Needs.{has_clone}
 use Rattle.removals.proofs.Clones.{uncloned_is, outside_is}
@@ -75,15 +75,6 @@ split_last t (x ∷ xs) u e = let k = split_last x xs u e in (t ∷ k.0, ap (λ 
 last_split : (ts : List Snap) (t : Snap) → last_or None ts ≡ Some t → (older : List Snap) × (ts ≡ older ++ t ∷ [])
 last_split [] t e = absurd (no_value t e)
 last_split (u ∷ ts) t e = split_last u ts t e
-
--- ---- what the rows say
-
-pub may_clone : (w : World) (name : Name) (origin : Member) (source : ℕ) → first_of (origin_row w name origin source) ≡ None → first_of (new_row w name) ≡ None
-may_clone w name origin source none =
-    let from = snap_named w origin in
-    let last : Bool × Refusal = (not (option_map_or (λ (t : Snap). t.guid == source) from false), WrongSource) in
-    let next : Bool × Refusal = (option_map_or (λ (t : Snap). t.deferred) from false, Deferred) in
-    rest_none last (new_row w name) (rest_none next (last ∷ new_row w name) (rest_none (not (is_some from), NoDataset) (next ∷ last ∷ new_row w name) none))
 
 -- ---- worlds
 
@@ -283,7 +274,7 @@ module _ (s : State) (steady : IsSteady s) where
     incremental_world source Plain e = same_world
     incremental_world source Back e = forced_world m.file_system
     incremental_world source Past e = past_world m.file_system source (past_idle s.now s.views m source e) (past_alone s.now s.views m source e)
-    incremental_world source (Origin origin) e = cloned_world m.file_system origin (can_make s.now m.file_system (may_clone s.now m.file_system origin source e))
+    incremental_world source (Origin origin) e = cloned_world m.file_system origin (can_clone s.now m.file_system origin source e)
     incremental_world source Replace e = no_incremental s.now s.views m source e
 
   module _ (m : Member) (sent : Sending) (mode : Receiving) (none : first_of (stream_row s.now s.views m sent mode) ≡ None) where

@@ -1,5 +1,5 @@
 -- A destroy: the datasets after it, why it is refused, and its steps.
-use Rattle.std.proofs.Common.{◌≡◌, ◌⊎◌, Bool, not, ◌&&◌, ◌||◌, Option, Some, None, refl, sym, ap, subst, ◌∙◌, inl, inr, ⊎_elim, true≢false}
+use Rattle.std.proofs.Common.{◌≡◌, ◌⊎◌, Bool, List, not, ◌&&◌, ◌||◌, Option, Some, None, refl, sym, ap, subst, ◌∙◌, inl, inr, ⊎_elim, true≢false}
 use Rattle.std.specs.Prelude.{nat_lt, length}
 use Rattle.std.specs.List.{list_any}
 use Rattle.std.specs.Option.{option_map_or}
@@ -10,8 +10,8 @@ use Rattle.base.specs.declared.refusal.Refusal.TheVariants.{NoMemory}
 use Rattle.base.specs.Surveys.{IsIn}
 use Rattle.base.specs.Names.{same_name}
 use Rattle.base.specs.declared.name.member.Member.{Member}
-use Rattle.base.specs.declared.name.target.Target.{Target}
-use Rattle.base.specs.declared.name.target.Target.TheVariants.{FileSystem as OfFileSystem, Snapshot as OfSnapshot, Bookmark as OfBookmark}
+use Rattle.model.specs.declared.destroy_target.DestroyTarget.{DestroyTarget}
+use Rattle.model.specs.declared.destroy_target.DestroyTarget.TheVariants.{FileSystem as SystemGoes, Snapshots as SnapshotsGo, Bookmark as MarkGoes}
 use Rattle.model.specs.declared.request.Request.TheVariants.{Destroy}
 use Rattle.model.specs.declared.reply.Reply.TheVariants.{Done, Refused}
 use Rattle.model.specs.World.{World, FileSystem, Snap, id_of, maps_of}
@@ -46,12 +46,12 @@ abbrev marked_by : (Snap → Bool) → Snap → Snap
 marked_by p t = record t { deferred = t.deferred || p t }
 
 -- the world after a destroy is that of the datasets, with what is to be freed
-destroyed_world : (s : State) (target : Target) (recursive defer : Bool)
+destroyed_world : (s : State) (target : DestroyTarget) (recursive defer : Bool)
     → after_destroy s.now (λ t. defer && is_needed s.now s.views t) target recursive
     ≡ record s.now { file_systems = (destroyed (datasets_of s) s.views target recursive defer).file_systems }
-destroyed_world s (OfFileSystem name) recursive defer = refl
-destroyed_world s (OfSnapshot m) recursive defer = refl
-destroyed_world s (OfBookmark m) recursive defer = at (get s.now.file_systems m.file_system)
+destroyed_world s (SystemGoes name) recursive defer = refl
+destroyed_world s (SnapshotsGo names) recursive defer = refl
+destroyed_world s (MarkGoes m) recursive defer = at (get s.now.file_systems m.file_system)
   where
     at : (x : Option FileSystem)
         → option_map_or (λ (f : FileSystem). record s.now { file_systems = insert s.now.file_systems m.file_system (record f { bookmarks = remove f.bookmarks m.component }) }) x s.now
@@ -60,7 +60,7 @@ destroyed_world s (OfBookmark m) recursive defer = at (get s.now.file_systems m.
     at (Some f) = refl
 
 -- the state after it
-pub destroyed_state : (s : State) (target : Target) (recursive defer : Bool)
+pub destroyed_state : (s : State) (target : DestroyTarget) (recursive defer : Bool)
     → with_now s (with_losses s.now (after_destroy s.now (λ t. defer && is_needed s.now s.views t) target recursive))
     ≡ lose s (destroyed (datasets_of s) s.views target recursive defer)
 destroyed_state s target recursive defer = ap (λ x. with_now s (with_losses s.now x)) (destroyed_world s target recursive defer)
@@ -68,16 +68,16 @@ destroyed_state s target recursive defer = ap (λ x. with_now s (with_losses s.n
 -- ---- what it leaves
 
 module _ (s : State) (steady : IsSteady s) (recursive defer : Bool) where
-  -- of snapshots of a name
-  module _ (m : Member) where
+  -- of snapshots
+  module _ (names : List Member) where
     abbrev needed : Snap → Bool
     needed t = defer && is_needed s.now s.views t
 
     abbrev goes : Snap → Bool
-    goes t = is_one_of (snaps_named s.now m recursive) t && not (needed t)
+    goes t = is_one_of (snaps_named s.now names recursive) t && not (needed t)
 
     abbrev stays : Snap → Bool
-    stays t = is_one_of (snaps_named s.now m recursive) t && needed t
+    stays t = is_one_of (snaps_named s.now names recursive) t && needed t
 
     left_from : AreMapsFrom s.now.file_systems (with_deferred (without_snaps s.now goes) stays).file_systems
     left_from n f m' at h =
@@ -109,15 +109,15 @@ module _ (s : State) (steady : IsSteady s) (recursive defer : Bool) where
         at (Some f) e = kept_put s.now m.file_system f (unmarked f) e (shrunk_snaps f (unmarked f) refl refl refl (λ u i. (u, i, refl, refl)))
 
   -- what a destroy leaves has maps of what was there, and file systems that were there
-  destroy_from : (target : Target) → AreMapsFrom s.now.file_systems (destroyed (datasets_of s) s.views target recursive defer).file_systems
-  destroy_from (OfFileSystem name) = retained_maps s.now.file_systems (λ n. not (list_any (same_name n) (file_systems_named s.now name recursive)))
-  destroy_from (OfSnapshot m) = left_from m
-  destroy_from (OfBookmark m) = unmarked_from m
+  destroy_from : (target : DestroyTarget) → AreMapsFrom s.now.file_systems (destroyed (datasets_of s) s.views target recursive defer).file_systems
+  destroy_from (SystemGoes name) = retained_maps s.now.file_systems (λ n. not (list_any (same_name n) (file_systems_named s.now name recursive)))
+  destroy_from (SnapshotsGo names) = left_from names
+  destroy_from (MarkGoes m) = unmarked_from m
 
-  destroy_kept : (target : Target) → AreKept s.now (world_of (destroyed (datasets_of s) s.views target recursive defer))
-  destroy_kept (OfFileSystem name) = kept_names s.now (λ n. not (list_any (same_name n) (file_systems_named s.now name recursive)))
-  destroy_kept (OfSnapshot m) = left_kept m
-  destroy_kept (OfBookmark m) = unmarked_kept m
+  destroy_kept : (target : DestroyTarget) → AreKept s.now (world_of (destroyed (datasets_of s) s.views target recursive defer))
+  destroy_kept (SystemGoes name) = kept_names s.now (λ n. not (list_any (same_name n) (file_systems_named s.now name recursive)))
+  destroy_kept (SnapshotsGo names) = left_kept names
+  destroy_kept (MarkGoes m) = unmarked_kept m
 
 -- ---- the sweep after it
 
@@ -164,15 +164,15 @@ module _ (s : State) (t : Datasets) (from : AreMapsFrom s.now.file_systems t.fil
 
 -- ---- steps
 
-module _ (s : State) (steady : IsSteady s) (target : Target) (recursive defer : Bool) where
+module _ (s : State) (steady : IsSteady s) (target : DestroyTarget) (recursive defer : Bool) where
   row_is : refusal_of s (destroy_rule target recursive defer) ≡ destroy_refusal (datasets_of s) s.views target recursive defer
   unfolding refusal_of
   row_is = by_target target
     where
-      by_target : (x : Target) → refusal_of s (destroy_rule x recursive defer) ≡ destroy_refusal (datasets_of s) s.views x recursive defer
-      by_target (OfFileSystem name) = refl
-      by_target (OfSnapshot m) = refl
-      by_target (OfBookmark m) = refl
+      by_target : (x : DestroyTarget) → refusal_of s (destroy_rule x recursive defer) ≡ destroy_refusal (datasets_of s) s.views x recursive defer
+      by_target (SystemGoes name) = refl
+      by_target (SnapshotsGo names) = refl
+      by_target (MarkGoes m) = refl
 
   -- what nothing refuses can be put in place once it is swept, where what holds of file systems holds of it
   pub destroy_can : destroy_refusal (datasets_of s) s.views target recursive defer ≡ None

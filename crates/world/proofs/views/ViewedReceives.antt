@@ -32,19 +32,9 @@ use Rattle.world.proofs.lists.Listed.{map_in}
 use Rattle.world.proofs.lists.Maps.{same_value, no_value}
 use Rattle.world.proofs.views.Viewed.{AreOnce, AreClosed, IsSafe, safe_same, safe_then, safe_losses, one_changed}
 use Rattle.world.proofs.views.ViewedTakes.{taken_safe}
-use Rattle.world.proofs.views.ViewedRequests.{row_false, not_some, not_viewed, added_safe, back_safe}
+use Rattle.world.proofs.views.ViewedRequests.{row_false, left_none, not_some, not_viewed, added_safe, back_safe}
 
 -- ---- what the rows say
-
--- of a row that refuses nothing the first line doesn't
-first_none : (b : Bool) (why : Refusal) (x y : Option Refusal) → (y ≡ None → x ≡ None) → cond b (Some why) y ≡ None → cond b (Some why) x ≡ None
-first_none true why x y rest k = absurd (no_value why (sym k))
-first_none false why x y rest k = rest k
-
--- the front of a row that refuses nothing
-left_none : (xs ys : Row) → first_of (xs ++ ys) ≡ None → first_of xs ≡ None
-left_none [] ys e = refl
-left_none (x ∷ xs) ys e = first_none x.0 x.1 (first_of xs) (first_of (xs ++ ys)) (λ k. left_none xs ys k) e
 
 -- where a receive isn't refused, its stream isn't
 pub stream_none : (s : State) (m : Member) (sent : Sending) (mode : Receiving) → refusal_of s (receive_rule m (Some sent) mode) ≡ None

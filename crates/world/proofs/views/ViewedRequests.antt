@@ -1,5 +1,5 @@
 -- A request that isn't refused leaves the snapshots of open views: what its row says of them.
-use Rattle.std.proofs.Common.{◌≡◌, ℕ, Bool, true, false, cond, not, ◌&&◌, ◌||◌, List, [], ◌∷◌, Option, Some, None, refl, sym, ap, subst, ◌∙◌, true≢false, ◌⊎◌, inl, inr, ⊎_elim, map, length, arith}
+use Rattle.std.proofs.Common.{◌≡◌, ℕ, Bool, true, false, cond, not, ◌&&◌, ◌||◌, List, [], ◌∷◌, ◌++◌, Option, Some, None, refl, sym, ap, subst, ◌∙◌, true≢false, ◌⊎◌, inl, inr, ⊎_elim, map, length, arith}
 use Rattle.std.specs.Prelude.{nat_lt, nat_le, is_some}
 use Rattle.std.specs.List.{find, list_any}
 use Rattle.std.specs.Option.{option_map, option_map_or, option_and_then}
@@ -11,6 +11,8 @@ use Rattle.base.specs.Surveys.{IsIn}
 use Rattle.base.specs.declared.name.target.Target.{Target}
 use Rattle.base.specs.declared.name.target.Target.TheVariants.{FileSystem as OfFileSystem, Snapshot as OfSnapshot, Bookmark as OfBookmark}
 use Rattle.base.specs.Names.{same_name}
+use Rattle.model.specs.declared.destroy_target.DestroyTarget.{DestroyTarget}
+use Rattle.model.specs.declared.destroy_target.DestroyTarget.TheVariants.{FileSystem as SystemGoes, Snapshots as SnapshotsGo, Bookmark as MarkGoes}
 use Rattle.model.specs.World.{World, FileSystem, Snap, SnapId, id_of, snap_at, file_system_at, empty_file_system, map_of_snap}
 use Rattle.model.specs.State.{State, Views, is_viewed}
 use Rattle.model.specs.Edits.{with_file_system, without_snaps, with_losses}
@@ -42,6 +44,23 @@ row_false (x ∷ xs) none r h = by_first x.0 refl (λ k. row_false xs k r) none 
     by_first : (b : Bool) → x.0 ≡ b → (first_of xs ≡ None → IsIn xs r → r.0 ≡ false) → cond b (Some x.1) (first_of xs) ≡ None → (r ≡ x) ⊎ IsIn xs r → r.0 ≡ false
     by_first true e rest k i = absurd (no_value x.1 (sym k))
     by_first false e rest k i = ⊎_elim (λ (is : r ≡ x). ap (λ (y : Bool × Refusal). y.0) is ∙ e) (rest k) i
+
+-- the rest of a row that refuses nothing refuses nothing
+pub rest_none : (r : Bool × Refusal) (rs : Row) → first_of (r ∷ rs) ≡ None → first_of rs ≡ None
+rest_none r rs e = by_first r.0 e
+  where
+    by_first : (b : Bool) → cond b (Some r.1) (first_of rs) ≡ None → first_of rs ≡ None
+    by_first true k = absurd (no_value r.1 (sym k))
+    by_first false k = k
+
+-- and so does its front
+pub left_none : (xs ys : Row) → first_of (xs ++ ys) ≡ None → first_of xs ≡ None
+left_none [] ys e = refl
+left_none (x ∷ xs) ys e = by_first x.0 (λ k. left_none xs ys k) e
+  where
+    by_first : (b : Bool) → (first_of (xs ++ ys) ≡ None → first_of xs ≡ None) → cond b (Some x.1) (first_of (xs ++ ys)) ≡ None → cond b (Some x.1) (first_of xs) ≡ None
+    by_first true rest k = absurd (no_value x.1 (sym k))
+    by_first false rest k = rest k
 
 -- none of the snapshots has an open view
 pub not_viewed : (w : World) (views : Views) (ids : List SnapId) → is_busy w views ids ≡ false → (id : SnapId) → IsIn ids id → is_viewed views id ≡ true → ⊥
@@ -175,17 +194,17 @@ snaps_safe views w ids defer once closed idle = safe_then views w left (with_def
         by_defer t seen one true e k = true≢false (sym k ∙ ap not (or_right (nat_lt 0 (length t.tags)) _ (or_left (is_viewed views (id_of t)) _ seen)))
         by_defer t seen one false e k = not_viewed w views ids (sym (ap (λ b. not b && is_busy w views ids) e) ∙ idle) (id_of t) (any_from ids (id_of t) one) seen
 
-pub destroy_asked : (s : State) (target : Target) (recursive defer : Bool) → AreOnce s.now → AreClosed s.now → refusal_of s (destroy_rule target recursive defer) ≡ None
+pub destroy_asked : (s : State) (target : DestroyTarget) (recursive defer : Bool) → AreOnce s.now → AreClosed s.now → refusal_of s (destroy_rule target recursive defer) ≡ None
     → IsSafe s.views s.now (with_losses s.now (after_destroy s.now (λ t. defer && is_needed s.now s.views t) target recursive))
 unfolding refusal_of
-destroy_asked s (OfFileSystem name) recursive defer once closed none =
+destroy_asked s (SystemGoes name) recursive defer once closed none =
     safe_losses s.views s.now (without_file_systems s.now (file_systems_named s.now name recursive))
     (systems_safe s.views s.now (file_systems_named s.now name recursive) once closed
     (row_false (destroy_system_row s.now s.views name recursive defer) none (is_busy s.now s.views (snaps_within s.now (file_systems_named s.now name recursive)), Busy) (inr (inr (inr (inr (inl refl)))))))
-destroy_asked s (OfSnapshot m) recursive defer once closed none =
-    safe_losses s.views s.now (after_destroy s.now (λ t. defer && is_needed s.now s.views t) (OfSnapshot m) recursive)
-    (snaps_safe s.views s.now (snaps_named s.now m recursive) defer once closed
-    (row_false (destroy_snap_row s.now s.views m recursive defer) none (not defer && is_busy s.now s.views (snaps_named s.now m recursive), Busy) (inr (inl refl))))
-destroy_asked s (OfBookmark m) recursive defer once closed none =
-    safe_losses s.views s.now (after_destroy s.now (λ t. defer && is_needed s.now s.views t) (OfBookmark m) recursive)
+destroy_asked s (SnapshotsGo names) recursive defer once closed none =
+    safe_losses s.views s.now (after_destroy s.now (λ t. defer && is_needed s.now s.views t) (SnapshotsGo names) recursive)
+    (snaps_safe s.views s.now (snaps_named s.now names recursive) defer once closed
+    (row_false (destroy_snap_row s.now s.views names recursive defer) none (not defer && is_busy s.now s.views (snaps_named s.now names recursive), Busy) (inr (inl refl))))
+destroy_asked s (MarkGoes m) recursive defer once closed none =
+    safe_losses s.views s.now (after_destroy s.now (λ t. defer && is_needed s.now s.views t) (MarkGoes m) recursive)
     (one_changed s.views s.now m.file_system (λ f. record f { bookmarks = remove f.bookmarks m.component }) once closed (λ f t e h. h) (λ f t e h seen. h))

@@ -10,7 +10,7 @@ use Rattle.removals.specs.Edits.{HasLost}
 use Rattle.removals.specs.Found.{removed_or_deferred}
 use Rattle.removals.specs.Needs.{has_clone}
 use Rattle.removals.proofs.Deferring.{lost_deferred}
-use Rattle.removals.proofs.Destroyed.{parted_none, parted_clones, turn_there, deferred_more, removed_more, goes_uncloned, more_ids, in_place, whole_ids}
+use Rattle.removals.proofs.Destroyed.{parted_none, parted_clones, gone_already, deferred_more, removed_more, goes_uncloned, more_ids, in_place, whole_ids}
 use Rattle.removals.proofs.Losses.{lost_none, lost_then}
 use Rattle.removals.proofs.Needed.{system_at}
 use Rattle.removals.proofs.working_copy.WorkingCopy.remove_or_defer.Goals as goal
@@ -23,25 +23,22 @@ loop-found-init c = record {
   never_lower = omega arith;
 }
 
-pub defer-requires : goal.defer-requires
-defer-requires c =
-    let needed : Snap → Bool = λ u. c.args.defer && is_needed (world_of c.args.table.now) c.args.views.now.opened u in
+pub loop-found-preserved-then-not-has_snapshot_in : goal.loop-found-preserved-then-not-has_snapshot_in
+loop-found-preserved-then-not-has_snapshot_in c =
+    let t = c.args.table.now in
+    let needed : Snap → Bool = λ u. c.args.defer && is_needed (world_of t) c.args.views.now.opened u in
+    let ids : List SnapId = map (λ (q : Name × Snap). id_of q.1) (take c.loop-found.found-index c.args.all.now) in
+    let p : Name × Snap = c.found-item.result in
     let name = ap (λ (q : Name × Snap). q.0) c.found.view_is in
     let id = c.id-id.ensures ∙ ap (λ (q : Name × Snap). id_of q.1) c.found.view_is in
+    let at = system_at t p.0 p.1 (c.requires.there p (in_place c.args.all.now c.loop-found.found-index p c.loop-found-test.true c.found-item.is)) in
+    let more = more_ids c.args.all.now c.loop-found.found-index p c.loop-found-test.true c.found-item.is in
+    let out = (λ i. is_some (snap_in_system (sym c.loop-found.invariant.so_far i) (sym name i) (sym id i))) ∙ sym c.has_snapshot_in.ensures ∙ c.if-not-has_snapshot_in.true in
     record {
-      there = (λ i. is_some (snap_in_system c.loop-found.self.to (name i) (id i)))
-          ∙ turn_there c.args.table.now c.facts.ensures.good needed c.args.all.now c.requires.there c.requires.once c.loop-found.found-index c.found-item.result c.loop-found-test.true c.found-item.is
-          c.loop-found.self.to c.loop-found.invariant.so_far;
+      so_far = c.loop-found.invariant.so_far ∙ gone_already t c.facts.ensures.good needed ids p.0 at.0 p.1 at.1 at.2 out ∙ ap (removed_or_deferred t needed) (sym more);
+      lost = c.loop-found.invariant.lost;
+      never_lower = c.loop-found.invariant.never_lower;
     }
-
-pub remove_snapshot-requires-clause-there : goal.remove_snapshot-requires-clause-there
-remove_snapshot-requires-clause-there c =
-    let needed : Snap → Bool = λ u. c.args.defer && is_needed (world_of c.args.table.now) c.args.views.now.opened u in
-    let name = ap (λ (q : Name × Snap). q.0) c.found.view_is in
-    let id = c.id-id.ensures ∙ ap (λ (q : Name × Snap). id_of q.1) c.found.view_is in
-    (λ i. is_some (snap_in_system c.loop-found.self.to (name i) (id i)))
-    ∙ turn_there c.args.table.now c.facts.ensures.good needed c.args.all.now c.requires.there c.requires.once c.loop-found.found-index c.found-item.result c.loop-found-test.true c.found-item.is
-    c.loop-found.self.to c.loop-found.invariant.so_far
 
 pub remove_snapshot-requires-clause-no_clone : goal.remove_snapshot-requires-clause-no_clone
 remove_snapshot-requires-clause-no_clone c =
