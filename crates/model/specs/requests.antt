@@ -53,6 +53,7 @@ pub mod OpenView
 pub mod CloseView
 pub mod Clone
 pub mod Promote
+pub mod Rename
 pub mod Hold
 pub mod Release
 pub mod Holds
