@@ -111,7 +111,7 @@ module _ (ss : FileSystems) (from to : Name) (can : CanRename ss from to) where
       other : same_name to from ≡ false
       other = by_test (same_name to from) refl
 
-  twice : (n : Name) → exchanged from to (exchanged from to n) ≡ n
+  pub twice : (n : Name) → exchanged from to (exchanged from to n) ≡ n
   twice n = exchanged_twice from to old_apart new_apart n
 
   abbrev pub after : FileSystems

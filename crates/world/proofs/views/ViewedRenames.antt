@@ -1,5 +1,5 @@
 -- A rename of a file system leaves each snapshot, perhaps in one of another name.
-use Rattle.std.proofs.Common.{◌≡◌, Bool, true, false, ◌||◌, ◌∷◌, Some, None, refl, sym, ap, ◌∙◌, true≢false, inl, inr, arith}
+use Rattle.std.proofs.Common.{◌≡◌, Bool, true, false, not, ◌||◌, ◌∷◌, Some, None, refl, sym, ap, ◌∙◌, true≢false, inl, inr, arith}
 use Rattle.std.specs.List.{list_any}
 use Rattle.std.specs.FinMap.{get, entries, keys, contains_key}
 use Rattle.base.specs.declared.refusal.Refusal.TheVariants.{NoDataset, BadName, Exists, NoParent, IsRoot}
