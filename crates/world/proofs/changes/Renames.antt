@@ -15,7 +15,7 @@ use Rattle.world.specs.Worlds.{FileSystems, shape_of, shapes, AreFileSystems, Is
 use Rattle.world.proofs.lists.Finding.{one_name, name_itself, append_none}
 use Rattle.world.proofs.lists.Listed.{length-mapped}
 use Rattle.world.proofs.lists.Maps.{no_value, some_of, key_cases, same_key, other_key, at_entry}
-use Rattle.world.proofs.lists.Names.{descendant_by_parent, parent_shorter, root_apart, exchanged, exchanged_first, exchanged_second, exchanged_neither, exchanged_twice, Where, first, second, neither, where_is, parent_behind, goes_up, goes_on, goes_on_is}
+use Rattle.world.proofs.lists.Names.{descendant_by_parent, parent_shorter, root_apart, exchanged, exchanged_first, exchanged_second, exchanged_neither, exchanged_twice, Where, first, second, neither, where_is, parent_behind, goes_up, goes_on, goes_on_is, behind}
 use Rattle.world.proofs.lists.SetCounts.{same_members}
 use Rattle.world.proofs.lineage.Bridge.{from_entries as entry_in}
 use Rattle.world.proofs.lineage.Put.{parent_there, is_parent}
@@ -118,7 +118,7 @@ module _ (ss : FileSystems) (from to : Name) (can : CanRename ss from to) where
   after = from_entries (map (λ (e : Name × FileSystem). (renamed from to e.0, e.1)) (entries ss))
 
   -- of a name that is there it is an exchange
-  renamed_is : (n : Name) → is_in_family to n ≡ false → renamed from to n ≡ exchanged from to n
+  pub renamed_is : (n : Name) → is_in_family to n ≡ false → renamed from to n ≡ exchanged from to n
   renamed_is n e = ap (λ b. cond (is_in_family from n) (to ++ drop (length from) n) (cond b (from ++ drop (length to) n) n)) (sym e)
 
   same_test : (n k : Name) → eq_by_cmp name_cmp n (exchanged from to k) ≡ eq_by_cmp name_cmp (exchanged from to n) k
@@ -150,6 +150,21 @@ module _ (ss : FileSystems) (from to : Name) (can : CanRename ss from to) where
 
   back_from : AreMapsFrom after ss
   back_from n s m at i = inr (exchanged from to n, s, renamed_back n ∙ at, i)
+
+  -- what isn't under the new name is what it was
+  pub outside_kept : (n : Name) (f : FileSystem) → is_in_family to n ≡ false → get ss (exchanged from to n) ≡ Some f → exchanged from to n ≡ n
+  outside_kept n f out is = exchanged_neither from to old_apart new_apart n (by_test (is_in_family from n) refl) out
+    where
+      by_test : (b : Bool) → is_in_family from n ≡ b → is_in_family from n ≡ false
+      by_test true e =
+          let k = behind from n e in
+          let goes = ap (exchanged from to) k.0 ∙ exchanged_first from to old_apart new_apart (drop (length from) n) k.1 in
+          absurd (true≢false (sym (goes_on_is to (drop (length from) n) ∙ k.1) ∙ can.free (to ++ drop (length from) n) f (ap (get ss) (sym goes) ∙ is)))
+      by_test false e = e
+
+  -- a name of both is the same file system's
+  pub kept_name : (n : Name) (f g : FileSystem) → get ss n ≡ Some f → get after n ≡ Some g → exchanged from to n ≡ n
+  kept_name n f g is is' = outside_kept n g (can.free n f is) (sym (renamed_at n) ∙ is')
 
   pub renamed_there : AreSnapsIn ss after
   renamed_there n s t at i = (exchanged from to n, s, t, renamed_back n ∙ at, i, refl)

@@ -51,7 +51,9 @@ renamed_safe views w from to can once closed =
       stands = λ n t (x, is, i) seen. (exchanged from to n, t, (x, renamed_back w.file_systems from to can n ∙ is, i), refl);
     }
 
-pub rename_asked : (s : State) (from to : Name) → AreOnce s.now → AreClosed s.now → refusal_of s (rename_rule from to) ≡ None → IsSafe s.views s.now (with_renamed s.now from to)
+pub rename_can : (s : State) (from to : Name) → refusal_of s (rename_rule from to) ≡ None → CanRename s.now.file_systems from to
 unfolding refusal_of
-rename_asked s from to once closed none = renamed_safe s.views s.now from to
-    (can_rename s.now from to (left_none (renaming_row s.now from to) (limit_row (state_asked s (rename_rule from to))) none)) once closed
+rename_can s from to none = can_rename s.now from to (left_none (renaming_row s.now from to) (limit_row (state_asked s (rename_rule from to))) none)
+
+pub rename_asked : (s : State) (from to : Name) → AreOnce s.now → AreClosed s.now → refusal_of s (rename_rule from to) ≡ None → IsSafe s.views s.now (with_renamed s.now from to)
+rename_asked s from to once closed none = renamed_safe s.views s.now from to (rename_can s from to none) once closed
