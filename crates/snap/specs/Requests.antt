@@ -1,4 +1,4 @@
--- What a clone and a promote leave of datasets, and why they are refused.
+-- What a clone, a promote and a rename leave of datasets, and why they are refused.
 use Rattle.std.specs.Prelude.{◌≡◌, ℕ, List, Option}
 use Rattle.std.specs.Option.{option_map_or}
 use Rattle.base.specs.declared.refusal.Refusal.{Refusal}
@@ -8,6 +8,7 @@ use Rattle.model.specs.Rule.{first_of}
 use Rattle.model.specs.requests.Rollback.{placed}
 use Rattle.model.specs.requests.Clone.{clone_row}
 use Rattle.model.specs.requests.Promote.{promotion_of, promotion_row}
+use Rattle.model.specs.requests.Rename.{with_renamed, renaming_row}
 use Rattle.world.specs.Dead.{IsThere}
 use Rattle.world.specs.Tables.{Datasets, world_of}
 use Rattle.datasets.specs.Clones.{with_clone_of, with_promoted}
@@ -27,6 +28,14 @@ promoted t name = option_map_or (with_promoted t name) (promotion_of (world_of t
 -- why a promote is refused, if it is, whatever the limits (zfs-promote(8))
 abbrev pub promote_refusal : Datasets → List ℕ → Option Refusal
 promote_refusal t name = first_of (promotion_row (world_of t) name)
+
+-- the datasets after the rename of a file system, and of all below it (zfs-rename(8))
+abbrev pub renamed : Datasets → List ℕ → List ℕ → Datasets
+renamed t from to = record t { file_systems = (with_renamed (world_of t) from to).file_systems }
+
+-- why a rename is refused, if it is, whatever the limits (zfs-rename(8))
+abbrev pub rename_refusal : Datasets → List ℕ → List ℕ → Option Refusal
+rename_refusal t from to = first_of (renaming_row (world_of t) from to)
 
 -- what stands before a dataset of the one stands before it in the other (On-Disk Specification, chapter 4: ds_prev_snap_obj)
 abbrev pub KeepsPrevious : Datasets → Datasets → Type 0

@@ -13,11 +13,12 @@ use Rattle.world.specs.Blocks.{block_order as o}
 use Rattle.world.specs.Shapes.{Name, name_order}
 use Rattle.world.specs.Worlds.{FileSystems, shape_of, shapes, AreFileSystems, IsWorld, ArePaired, AreMapsFrom}
 use Rattle.world.proofs.lists.Finding.{one_name, name_itself, append_none}
-use Rattle.world.proofs.lists.Listed.{length-mapped}
-use Rattle.world.proofs.lists.Maps.{no_value, some_of, key_cases, same_key, other_key, at_entry}
+use Rattle.world.proofs.lists.Listed.{in_map, length-mapped}
+use Rattle.world.proofs.lists.Maps.{no_value, some_of, key_cases, same_key, other_key, at_entry, entry_from_find}
 use Rattle.world.proofs.lists.Names.{descendant_by_parent, parent_shorter, root_apart, exchanged, exchanged_first, exchanged_second, exchanged_neither, exchanged_twice, Where, first, second, neither, where_is, parent_behind, goes_up, goes_on, goes_on_is, behind}
 use Rattle.world.proofs.lists.SetCounts.{same_members}
-use Rattle.world.proofs.lineage.Bridge.{from_entries as entry_in}
+use Rattle.world.specs.Usage.{IsEntry}
+use Rattle.world.proofs.lineage.Bridge.{in_entries, from_entries as entry_in}
 use Rattle.world.proofs.lineage.Put.{parent_there, is_parent}
 use Rattle.world.proofs.lineage.Relabel.{relabelled}
 use Rattle.world.proofs.changes.Drawn.{union_from}
@@ -44,6 +45,14 @@ few_entries (e ∷ es) =
         → len (from_entries {R = name_cmp} (e ∷ es)) ≤ suc (length es)
     by_there true made rest = omega (arith, made, rest)
     by_there false made rest = omega (arith, made, rest)
+
+-- each file system after a rename, whatever it is of, was one before
+pub renamed_of : (w : World) (from to n : Name) (f : FileSystem) → get (with_renamed w from to).file_systems n ≡ Some f → (m : Name) × (get w.file_systems m ≡ Some f)
+renamed_of w from to n f is =
+    let made : Name × FileSystem → Name × FileSystem = λ (e : Name × FileSystem). (renamed from to e.0, e.1) in
+    let found = sym (get-from_entries name_order.total (map made (entries w.file_systems)) n) ∙ is in
+    let e = in_map made (entries w.file_systems) (n, f) (in_entries (map made (entries w.file_systems)) n f (entry_from_find name_order (map made (entries w.file_systems)) n f found)) in
+    (e.0.0, at_entry name_order w.file_systems e.0.0 f (subst (λ x. IsEntry (entries w.file_systems) e.0.0 x) (ap (λ (x : Name × FileSystem). x.1) (sym e.2)) (entry_in (entries w.file_systems) e.0 e.1)))
 
 -- ---- where no file system has a name, none is below it
 
