@@ -33,9 +33,10 @@ pub(crate) fn kind_of(request: &Request) -> Kind
         | Request::Holds { .. }
         | Request::Send { .. } => Kind::Question,
         Request::OpenView { .. } => Kind::View,
-        Request::Snapshot { .. } | Request::Rollback { .. } | Request::Promote { .. } => {
-            Kind::Asking
-        }
+        Request::Snapshot { .. }
+        | Request::Rollback { .. }
+        | Request::Promote { .. }
+        | Request::Rename { .. } => Kind::Asking,
         _ => Kind::Change,
     }
 }
