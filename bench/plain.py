@@ -391,12 +391,17 @@ class State:  # never changed in place: a request makes a new state
 
     def destroy(self, recursive, defer, target):
         """Destroys a file system, a snapshot or a bookmark. What no dataset has any more is to be freed."""
+        if target.mark == "@":
+            return self.destroy_snapshots(recursive, defer, target)
         if target.mark == "#":
             refuse("NoDataset", not self.now.named(target))
             bookmarks = self.now.systems[target.system].bookmarks
             return "ok", self.with_system(target.system, bookmarks={it: bookmarks[it] for it in bookmarks if it != target.component})
-        new = self.without_snaps if target.mark else self.without_systems
-        return "ok", new(recursive, defer, target).with_losses(self)
+        return "ok", self.without_systems(recursive, defer, target).with_losses(self)
+
+    def destroy_snapshots(self, recursive, defer, *names):
+        """Destroys the snapshots of a list, all or none of them. A line has a list of one name (requests/Destroy: destroy_target_of)."""
+        return "ok", self.without_snaps(recursive, defer, names).with_losses(self)
 
     def without_systems(self, recursive, defer, target):
         """The state without a file system, with -r without its family (requests/Destroy: destroy_system_row)."""
@@ -408,18 +413,19 @@ class State:  # never changed in place: a request makes a new state
         self.ask_leave([t for it in going for t in w.systems[it].snaps.values()], going)
         return self.with_now(systems={it: f for it, f in w.systems.items() if it not in going})
 
-    def without_snaps(self, recursive, defer, target):
-        """The state without a snapshot, with -r without all of its name in the family. With -d a needed one is marked (destroy_snap_row)."""
-        names = [target._replace(system=name) for name in (self.now.family(target.system) if recursive else [target.system])]
-        snaps = {it.system: self.now.named(it) for it in names if self.now.named(it)}
-        refuse("NoDataset", not snaps)
-        self.ask_leave([] if defer else snaps.values())
+    def without_snaps(self, recursive, defer, names):
+        """The state without the snapshots of a list, with -r without all of their names in the families. A name that no snapshot has is passed over,
+        and one that stands twice counts once. With -d a needed one is marked (requests/Destroy: snaps_named, destroy_snap_row, after_destroy)."""
+        names = [it._replace(system=name) for it in names for name in (self.now.family(it.system) if recursive else [it.system])]
+        systems = {self.now.named(it): it.system for it in names if self.now.named(it)}
+        refuse("NoDataset", not systems)
+        self.ask_leave([] if defer else systems)
         new = self
-        for name, snap in snaps.items():
+        for snap, name in systems.items():
             if defer and self.is_needed(snap):
                 new = new.with_snap(name, replace(snap, deferred=True))
             else:
-                new = new.with_system(name, self.now.systems[name].without(lambda t: t is snap))
+                new = new.with_system(name, new.now.systems[name].without(lambda t: t is snap))
         return new
 
     # -- tags, bookmarks and views

@@ -13,10 +13,10 @@ With a built program it asks more rows than a file has:
 
 - each beginning of a stream, each stream that differs in one byte, and one that goes on, is refused as BadStream and changes nothing;
 - after each line of random scripts both worlds are walked in the image as the plain machine has them;
-- each request for memory of a script with each kind of request is refused in turn, at once and in two steps. The line that is told NoMemory
-  has changed nothing: all lines after it, and all that can be asked of the pool, are answered as if it were left out. Asked again it is
-  answered as ever, and in the end the pool has the same blocks at the same numbers as one that was never refused memory. With --gate one request
-  of thirty is refused, chosen by the digest of HEAD's tree.
+- each request for memory of a script with each kind of request, and of one with destroys of several snapshots, is refused in turn, at once and in
+  two steps. The line that is told NoMemory has changed nothing: all lines after it, and all that can be asked of the pool, are answered as if it
+  were left out. Asked again it is answered as ever, and in the end the pool has the same blocks at the same numbers as one that was never refused
+  memory. With --gate one request of thirty is refused, chosen by the digest of HEAD's tree.
 
 Anything else is printed, and the exit status is 1.
 """
@@ -35,7 +35,7 @@ from pathlib import Path
 import plain
 import refused
 from judge import Judge
-from row_words import MASK, error, mixed, received
+from row_words import MASK, destroyed, error, mixed, received
 from wrong_bodies import order_of_tree
 
 ROOT = Path(__file__).resolve().parent.parent
@@ -89,6 +89,11 @@ def root_of(world):
     return f"{top.birth} {pointers[0].hex()} 0"
 
 
+def told_of(reply):
+    """What a row tells of a reply that is `ok` or the name of a refusal."""
+    return reply if reply == "ok" else error(reply)
+
+
 class Plain:
     """Two pools of the plain machine."""
 
@@ -126,13 +131,33 @@ class Plain:
         return getattr(self, f"do_{word}")(place, rest, given)
 
     def do_apply(self, place, line, given):
+        word, _, words = line.partition(" ")
+        if word == "destroys":
+            return self.do_destroys(place, words, given)
         self.asked[place].append(line)
         return self.reply(place, line, given)
 
     do_two = do_apply
 
     def do_left(self, place, line, _given):
+        word, _, words = line.partition(" ")
+        if word == "destroys":
+            return told_of(self.destroyed(place, words)[0])
         return next(iter(self.pools[place].lawful(line.encode())))
+
+    def destroyed(self, place, words):
+        """What is told of a destroy of `[-r] [-d] SNAP ..`, and the state after it."""
+        names, flags = words.split(" ") if words else [], []
+        for option in ("-r", "-d"):
+            flags.append(names[:1] == [option])
+            names = names[1:] if flags[-1] else names
+        return destroyed(self.pools[place].states[0], *flags, names)
+
+    def do_destroys(self, place, words, _given):
+        self.asked[place].append(f"destroys {words}")
+        reply, state = self.destroyed(place, words)
+        self.pools[place].states = [state]
+        return told_of(reply)
 
     def do_take(self, place, words, _given):
         self.asked[place].append(words)
@@ -141,7 +166,7 @@ class Plain:
         judge = self.pools[place]
         reply, state = received(judge.states[0], *words)
         judge.states = [state]
-        return reply if reply == "ok" else error(reply)
+        return told_of(reply)
 
     def do_list(self, place, lines, _given):
         return "; ".join(self.do_apply(place, it, None) for it in lines.split("; "))
@@ -254,6 +279,26 @@ def each_mode():
     return [it.replace("<<", increment.hex()).replace("<", full.hex()) for it in MODES.replace("\n", " ").split("; ")]
 
 
+# Destroys of several snapshots, and what comes before and after them. Each is done.
+LISTS = """create p/a; create p/a/d; create p/b; set quota=102400 p/a; write p/a 0 0 61; write p/a/d 0 0 61; write p/b 0 0 61; snapshot -r p@1;
+write p/a 0 0 62; write p/a 1 0 62; write p/b 0 0 62; snapshot -r p@2; write p/a 0 0 63; write p/a/d 0 0 63; snapshot -r p@3; write p/a 0 0 64;
+snapshot p/a@4; write p/a 0 0 65; sync; destroys p/a@3 p/a@none p/a@1 p/a@3; slice 3; destroys p/b@2 p/a@2; hold x p/b@1; view p/a@4;
+clone p/a/d@1 p/c; destroys -d p/a/d@1 p/a/d@2 p/b@1 p/a@4; release x p/b@1; unview 1; destroy p/c; snapshot -r p@5; write p/a 0 0 66;
+write p/b 0 0 66; snapshot -r p@6; write p/a 0 0 67; hold x p/a/d@6; sync; destroys -r p/a@5 p@5 p/a/d@3; destroys -r -d p/a@6 p@6; slice 100;
+abandon; destroys -r -d p@6 p@5; release x p/a/d@6; list; slice 100; sync; write p/a 0 2 68"""
+
+
+def each_list():
+    """The lines of LISTS; each is done."""
+    lines, beside = LISTS.replace("\n", " ").split("; "), Plain()
+    beside.row("0 make 1 300")
+    for line in lines:
+        reply = beside.row(f"0 apply {line}")
+        if reply.startswith("error "):
+            sys.exit(f"pool_rows: {line} is refused: {reply}")
+    return lines
+
+
 class Asked(refused.Machine):
     """A program that is asked lines of a script, each as a row on a pool that is made first. A line may be a row itself (ROWS)."""
 
@@ -362,13 +407,15 @@ def try_rows(machine, workers):
 
 def try_memory(machine, workers, share):
     """Refuses memory to each kind of request; whether something is wrong, which is printed."""
-    is_wrong, lines, receives = False, [it.encode() for it in each_kind()], [it.encode() for it in each_mode()]
+    is_wrong, receives = False, [it.encode() for it in each_mode()]
     is_wrong |= tried("receives in each mode", LeftOut(Asked(machine, b"apply"), receives), workers, share)
     is_wrong |= tried("receives in each mode, and again", AskedAgain(machine, beside(b"two", receives)), workers, share)
-    for way in (b"apply", b"two"):
-        name = f"each kind of request, {'at once' if way == b'apply' else 'in two'}"
-        is_wrong |= tried(name, LeftOut(Asked(machine, way), lines), workers, share)
-        is_wrong |= tried(f"{name}, and again", AskedAgain(machine, beside(way, lines)), workers, share)
+    for what, lines in (("each kind of request", each_kind()), ("destroys of several snapshots", each_list())):
+        lines = [it.encode() for it in lines]
+        for way in (b"apply", b"two"):
+            name = f"{what}, {'at once' if way == b'apply' else 'in two'}"
+            is_wrong |= tried(name, LeftOut(Asked(machine, way), lines), workers, share)
+            is_wrong |= tried(f"{name}, and again", AskedAgain(machine, beside(way, lines)), workers, share)
     return is_wrong
 
 

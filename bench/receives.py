@@ -1,21 +1,24 @@
 #!/usr/bin/env python3
-"""Asks pools of the library and the plain machine (bench/plain.py) the same random requests, receives in each mode among them, and compares.
+"""Asks pools of the library and the plain machine (bench/plain.py) the same random requests, receives in each mode and destroys of several
+snapshots among them, and compares.
 
     python3 bench/receives.py [--first SEED] [--pools N] [--requests N]
 
 The pools are asked through the Python package over the shared library that `make` leaves in hosts/out (or the one that YUZGONT_LIBRARY names).
-A script's lines have two modes of a receive, and this tries all five, of streams that the pools send each other. It prints how often each mode
-was done or refused, and fails where a reply, a name, a size or a block is another than the plain machine's. A seed says all that is asked.
+A script's lines have two modes of a receive, and this tries all five, of streams that the pools send each other. A line destroys one snapshot, and
+this destroys lists of them, some with names that no snapshot has or that stand twice. It prints how often each was done or refused, and fails where
+a reply, a name, a size or a block is another than the plain machine's. A seed says all that is asked.
 """
 
 import argparse
 import random
 import sys
 from collections import Counter
+from functools import partial
 from pathlib import Path
 
 from plain import fresh, lawful, target_of, told_by
-from row_words import received
+from row_words import destroyed, received
 
 sys.path.insert(0, str(Path(__file__).resolve().parent.parent / "hosts" / "python"))
 from yuzgont import Pool, Receiving, Refusal  # noqa: E402
@@ -23,6 +26,7 @@ from yuzgont import Pool, Receiving, Refusal  # noqa: E402
 SYSTEMS, SNAPSHOTS, BLOCKS = "p p/a p/a/x p/b p/c".split(), "1234", (0, 1, 2, 16, 17, 300)
 PROPERTIES = "used available referenced written usedbysnapshots usedbydataset usedbychildren quota refquota reservation origin".split()
 POOL_PROPERTIES = "allocated free freeing waiting group".split()
+MODES, DESTROYS = "Plain Back Past Origin Replace".split(), "destroys of several snapshots"
 
 
 class Wrong(Exception):
@@ -47,12 +51,23 @@ class Both:
     def receive(self, mode, name, stream, origin):
         """Receives a stream on both; what came of it."""
         wanted, state = received(self.state, mode, name, stream, origin)
+        ask = partial(self.pool.receive, name, stream, Receiving[mode.upper()], origin if mode == "Origin" else "")
+        return self.compare(f"receive {mode} {name}, perhaps of {origin}", ask, wanted, state)
+
+    def destroy(self, recursive, deferred, names):
+        """Destroys the snapshots of a list on both; what came of it."""
+        wanted, state = destroyed(self.state, recursive, deferred, names)
+        words = ["-r"] * recursive + ["-d"] * deferred + names
+        return self.compare(f"destroy {' '.join(words)}", partial(self.pool.destroy_snapshots, names, recursive, deferred), wanted, state)
+
+    def compare(self, what, ask, wanted, state):
+        """Makes a call of the library, which is to be answered as wanted and to leave a state; what came of it."""
         try:
-            self.pool.receive(name, stream, Receiving[mode.upper()], origin if mode == "Origin" else "")
+            ask()
             told = "ok"
         except Refusal as refused:
             told = type(refused).__name__
-        self.asked.append(f"receive {mode} {name}, perhaps of {origin}: {told}")
+        self.asked.append(f"{what}: {told}")
         if told != wanted:
             raise Wrong(f"the plain machine: {wanted}")
         self.state = state
@@ -81,7 +96,7 @@ def line_of(draw):
     lines = {
         f"write {system} 0 {draw.choice(BLOCKS)} {draw.randrange(97, 122):x}": 30,
         f"punch {system} 0 {draw.choice(BLOCKS)}": 6,
-        f"snapshot {snapshot}": 14,
+        f"snapshot {snapshot}": 18,
         f"create {system}": 8,
         f"clone {snapshot} {system}": 5,
         f"promote {system}": 3,
@@ -120,7 +135,7 @@ def receive(draw, giver, taker, counts):
     stream = stream_of(draw, giver, taker)
     if not stream:
         return
-    mode, source = draw.choice("Plain Back Past Origin Replace".split()), told_by(stream)[0]
+    mode, source = draw.choice(MODES), told_by(stream)[0]
     holders = [name for name, guid in taker.snapshots().items() if guid == source]
     system, origin = draw.choice(SYSTEMS), f"{draw.choice(SYSTEMS)}@{draw.choice(SNAPSHOTS)}"
     if holders and draw.random() < 0.8:
@@ -128,6 +143,22 @@ def receive(draw, giver, taker, counts):
         system = system if mode == "Origin" else origin.partition("@")[0]
     told = taker.receive(mode, f"{system}@{draw.choice(SNAPSHOTS)}", stream, origin)
     counts[mode, "incremental" if source else "full", told] += 1
+
+
+def destroy(draw, pool, counts):
+    """Destroys snapshots of a list. Half of the names are of snapshots that are there, one of which may be kept first; some stand twice."""
+    there, names = list(pool.snapshots()), []
+    for _ in range(draw.choice([1, 2, 2, 3, 4, 6])):
+        is_there = there and draw.random() < 0.5
+        names.append(draw.choice(there) if is_there else f"{draw.choice(SYSTEMS)}@{draw.choice(SNAPSHOTS)}")
+    if there and draw.random() < 0.3:
+        kept = draw.choice(there)
+        pool.line(draw.choice([f"hold t {kept}", f"clone {kept} {draw.choice(SYSTEMS)}"]))
+        names.insert(draw.randrange(len(names) + 1), kept)
+    names += draw.sample(names, 1) if draw.random() < 0.2 else []
+    recursive, deferred = draw.random() < 0.3, draw.random() < 0.3
+    told = pool.destroy(recursive, deferred, names)
+    counts[DESTROYS, " ".join(["-r"] * recursive + ["-d"] * deferred) or "no option", told] += 1
 
 
 def try_pools(seed, requests, counts):
@@ -138,8 +169,11 @@ def try_pools(seed, requests, counts):
     try:
         for _ in range(requests):
             one, other = draw.sample(both, 2)
-            if draw.random() < 0.7:
+            which = draw.random()
+            if which < 0.66:
                 one.line(line_of(draw))
+            elif which < 0.7:
+                destroy(draw, one, counts)
             else:
                 receive(draw, one, draw.choice(both), counts)
             if draw.random() < 0.1:
@@ -164,10 +198,12 @@ def main():
         if found:
             wrong.append(seed)
             print(found)
-    for (mode, kind, told), count in sorted(counts.items()):
-        print(f"{mode}, {kind}: {told} {count}")
-    missing = [it for it in "Plain Back Past Origin Replace".split() if not any(key[0] == it and key[2] == "ok" for key in counts)]
-    print(f"{sum(counts.values())} receives in {2 * options.pools} pools, {len(wrong)} of {options.pools} seeds wrong" + "".join(f", {it} never done" for it in missing))
+    for (what, kind, told), count in sorted(counts.items()):
+        print(f"{what}, {kind}: {told} {count}")
+    missing = [it for it in (*MODES, DESTROYS) if not any(key[0] == it and key[2] == "ok" for key in counts)]
+    destroys = sum(count for key, count in counts.items() if key[0] == DESTROYS)
+    done = f"{sum(counts.values()) - destroys} receives and {destroys} {DESTROYS} in {2 * options.pools} pools"
+    print(f"{done}, {len(wrong)} of {options.pools} seeds wrong" + "".join(f", {it} never done" for it in missing))
     sys.exit(bool(wrong or missing))
 
 

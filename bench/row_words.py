@@ -17,13 +17,24 @@ def error(name):
     return f"error {REFUSALS.index(name) + 1} {name}"
 
 
-def received(state, mode, name, stream, origin=None):
-    """What the plain machine tells of a receive in a mode, `ok` or the name of a refusal, and the state after it."""
+def answered(state, ask, *operands):
+    """What the plain machine tells of a request that no line asks, `ok` or the name of a refusal, and the state after it."""
     try:
-        reply, new = state.receive(mode, target_of(name), stream, origin and target_of(origin))
+        reply, new = ask(*operands)
     except Refused as refused:
         return refused.args[0], state
     return reply, new.swept()
+
+
+def received(state, mode, name, stream, origin=None):
+    """The same of a receive in a mode."""
+    return answered(state, state.receive, mode, target_of(name), stream, origin and target_of(origin))
+
+
+def destroyed(state, recursive, defer, names):
+    """The same of a destroy of several snapshots."""
+    targets = [target_of(it, ("@",)) for it in names]
+    return ("BadName", state) if None in targets else answered(state, state.destroy_snapshots, recursive, defer, *targets)
 
 
 def yes(is_so):

@@ -213,6 +213,12 @@ def receive_in_a_mode(copy):
     return *copy.run("env", f"YUZGONT_LIBRARY={ROOT / SHARED}", sys.executable, "bench/receives.py", "--pools", "50", "--requests", "150"), "the plain machine: "
 
 
+def destroy_of_several(copy):
+    """A plain machine that refuses a list where one of its names is no snapshot's."""
+    copy.edit("bench/plain.py", r'refuse\("NoDataset", not systems\)', 'refuse("NoDataset", len(systems) < len({*names}))')
+    return *copy.run("env", f"YUZGONT_LIBRARY={ROOT / SHARED}", sys.executable, "bench/receives.py", "--pools", "50", "--requests", "150"), "the plain machine: NoDataset"
+
+
 def short(copy):
     copy.edit("bench/machine.py", r"^LEFT, OF_EACH_PROOF = \S+", "LEFT, OF_EACH_PROOF = 9_000_000_000,")
     return *copy.python("bench/machine.py"), "machine: short of "
@@ -252,6 +258,7 @@ BROKEN = {
     "a count in a page": (count, None),
     "a leak in a host": (leak, LIBRARY),
     "a receive in one of its modes": (receive_in_a_mode, SHARED),
+    "a destroy of several snapshots": (destroy_of_several, SHARED),
     "a disk that is too small": (short, None),
     "a part of the gate": (part, None),
     "a proof that is refused": (proof_once, None),

@@ -105,6 +105,35 @@ static void try_datasets(void) {
     yuz_free(&pool);
 }
 
+/* Destroys of several snapshots, all or none of them. */
+static void try_destroys(void) {
+    yuz_pool pool = YUZ_NO_POOL;
+    prepare(&pool);
+    done("snapshot", yuz_snapshot(&pool, NAME("p@u"), true));
+    expect_line(&pool, "list", "p p@u p/a p/a@s p/a@t p/a@u p/c p/c@u");
+    told_so("one has a clone", yuz_destroy_snapshots(&pool, NAME("p/a@t p/a@s"), false, false), YUZ_HAS_CLONES);
+    done("hold", yuz_hold(&pool, NAME("kept"), NAME("p/c@u")));
+    told_so("one has a tag", yuz_destroy_snapshots(&pool, NAME("p/a@s p/c@u p/a@t"), false, false), YUZ_BUSY);
+    told_so("one below has a tag", yuz_destroy_snapshots(&pool, NAME("p/a@t p@u"), true, false), YUZ_BUSY);
+    told_so("none is there", yuz_destroy_snapshots(&pool, NAME("p/a@v p/d@s"), false, false), YUZ_NO_DATASET);
+    told_so("a file system", yuz_destroy_snapshots(&pool, NAME("p/a@t p/a"), false, false), YUZ_BAD_NAME);
+    told_so("two spaces", yuz_destroy_snapshots(&pool, NAME("p/a@t  p/a@u"), false, false), YUZ_BAD_NAME);
+    told_so("no name", yuz_destroy_snapshots(&pool, NULL, 0, false, false), YUZ_BAD_NAME);
+    told_so("no text", yuz_destroy_snapshots(&pool, NULL, 1, false, false), YUZ_NULL);
+    told_so("no handle", yuz_destroy_snapshots(NULL, NAME("p/a@t"), false, false), YUZ_NULL);
+    expect_line(&pool, "list", "p p@u p/a p/a@s p/a@t p/a@u p/c p/c@u");
+    done("destroy_snapshots", yuz_destroy_snapshots(&pool, NAME("p/a@u p/a@v p/a@t p/a@u"), false, false));
+    expect_line(&pool, "list", "p p@u p/a p/a@s p/c p/c@u");
+    done("destroy_snapshots deferred", yuz_destroy_snapshots(&pool, NAME("p@u p/a@s"), true, true));
+    expect_line(&pool, "list", "p p/a p/a@s p/c p/c@u");
+    expect_line(&pool, "get defer_destroy p/a@s", "on");
+    expect_line(&pool, "get defer_destroy p/c@u", "on");
+    done("release", yuz_release(&pool, NAME("kept"), NAME("p/c@u")));
+    done("destroy", yuz_destroy(&pool, NAME("p/c"), false, false));
+    expect_line(&pool, "list", "p p/a");
+    yuz_free(&pool);
+}
+
 /* Limits, and numbers of datasets and of the pool. */
 static void try_numbers(void) {
     static const char *const words[] = {"pget size", "pget allocated", "pget free", "pget freeing", "pget waiting", "pget group"};
@@ -292,6 +321,7 @@ static void try_receives(void) {
 static int do_create(yuz_pool *pool) { return yuz_create_file_system(pool, NAME("p/b")); }
 static int do_clone(yuz_pool *pool) { return yuz_clone(pool, NAME("p/a@t"), NAME("p/d")); }
 static int do_destroy(yuz_pool *pool) { return yuz_destroy(pool, NAME("p/c"), true, false); }
+static int do_destroys(yuz_pool *pool) { return yuz_destroy_snapshots(pool, NAME("p/a@s p/a@t"), false, true); }
 static int do_promote(yuz_pool *pool) { return yuz_promote(pool, NAME("p/c")); }
 static int do_rollback(yuz_pool *pool) { return yuz_rollback(pool, NAME("p/a@t"), false); }
 static int do_bookmark(yuz_pool *pool) { return yuz_bookmark(pool, NAME("p/a@t"), NAME("p/a#m")); }
@@ -390,8 +420,9 @@ int main(void) {
     static const struct {
         const char *what;
         int (*call)(yuz_pool *);
-    } each[] = {{"create", do_create}, {"clone", do_clone}, {"destroy", do_destroy}, {"promote", do_promote}, {"rollback", do_rollback}, {"bookmark", do_bookmark}, {"hold", do_hold}, {"release", do_release}, {"set", do_set}, {"free_object", do_free_object}, {"open_view", do_view}, {"close_view", do_close}, {"written_since", do_written}, {"would_free", do_would_free}, {"pool_get", do_pool_get}, {"list", do_list}, {"holds", do_holds}, {"a line that changes", do_line}};
+    } each[] = {{"create", do_create}, {"clone", do_clone}, {"destroy", do_destroy}, {"destroy_snapshots", do_destroys}, {"promote", do_promote}, {"rollback", do_rollback}, {"bookmark", do_bookmark}, {"hold", do_hold}, {"release", do_release}, {"set", do_set}, {"free_object", do_free_object}, {"open_view", do_view}, {"close_view", do_close}, {"written_since", do_written}, {"would_free", do_would_free}, {"pool_get", do_pool_get}, {"list", do_list}, {"holds", do_holds}, {"a line that changes", do_line}};
     try_datasets();
+    try_destroys();
     try_numbers();
     try_views();
     try_lists();

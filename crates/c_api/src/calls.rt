@@ -231,7 +231,11 @@ impl YuzPool {
     ) -> Answer
         ensures { Calls (Does (asked_destroy_snapshots names.now recursive defer)) self.old.slot.host result self.new.slot.host }
     {
-        on_host!(alloc, self, |host| host.destroy_snapshots(names, recursive, defer))
+        on_host!(
+            alloc,
+            self,
+            |host| host.destroy_snapshots(names, recursive, defer)
+        )
     }
 
     /// Promotes a clone, as `Host::promote`.

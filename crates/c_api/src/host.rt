@@ -13,10 +13,10 @@ ghost use Rattle.model.specs.declared.request.Request.TheVariants.{Abandon, Clos
 
 use crate::answer::Answer;
 use crate::asking::{
-    ask_bookmark, ask_clone, ask_create, ask_destroy, ask_destroy_snapshots, ask_free_object, ask_get, ask_hold,
-    ask_holds, ask_open_view, ask_promote, ask_punch, ask_read, ask_receive, ask_release,
-    ask_rollback, ask_send, ask_set, ask_snapshot, ask_would_free, ask_write, ask_written_since,
-    limit_of, mode_of, pool_property_of, property_of,
+    ask_bookmark, ask_clone, ask_create, ask_destroy, ask_destroy_snapshots, ask_free_object,
+    ask_get, ask_hold, ask_holds, ask_open_view, ask_promote, ask_punch, ask_read, ask_receive,
+    ask_release, ask_rollback, ask_send, ask_set, ask_snapshot, ask_would_free, ask_write,
+    ask_written_since, limit_of, mode_of, pool_property_of, property_of,
 };
 use crate::pieces::copy_piece;
 use base::refusal::Refusal;

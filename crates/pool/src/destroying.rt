@@ -109,12 +109,7 @@ fn is_alone(table: &Table, target: &DestroyTarget, recursive: bool) -> bool
 
 // Updates the ledger after a destroy of this target, to that of these datasets. `alone` says that the destroy changed one file system only. It
 // allocates nothing. It costs what `recount` does for one file system, nothing for a bookmark, and otherwise what `renew` does.
-fn follow_destroy(
-    ledger: &mut Option<Ledger>,
-    table: &Table,
-    target: &DestroyTarget,
-    alone: bool,
-)
+fn follow_destroy(ledger: &mut Option<Ledger>, table: &Table, target: &DestroyTarget, alone: bool)
     requires system { (name : List ℕ) → target.now ≡ DestroyTarget.FileSystem name → alone ≡ true → (old : Datasets) × CanRecount old table.now name ledger.old }
     requires snapshot { (m : Member) → target.now ≡ DestroyTarget.Snapshots (m ∷ []) → alone ≡ true → (old : Datasets) × CanRecount old table.now m.file_system ledger.old }
     requires bookmark { (m : Member) → target.now ≡ DestroyTarget.Bookmark m → IsAccounted table.now ledger.old }

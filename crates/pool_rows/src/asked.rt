@@ -1,13 +1,15 @@
 //! Script lines, asked of a pool in one of its ways.
+use crate::destroys::destroy_of;
 use model::reply::Reply;
 use model::request::Request;
 use pool::Pool;
 use script::run::Caller;
 use std::alloc::{AllocError, Global};
-use telling::dropped::{drop_request, put_reply};
+use telling::dropped::{drop_reply, drop_request, put_reply};
 use telling::lines::{ask, requests_of};
 use telling::replies::tell_reply;
 use telling::told::{tell, tell_refusal};
+use telling::words::parted;
 
 /// How a request is answered.
 #[derive(Clone, Copy)]
@@ -77,10 +79,34 @@ impl AskedPool {
         }
     }
 
-    /// Asks a line in a way, and tells its reply.
+    /// Asks a line in a way, and tells its reply. A line that begins with `destroys` is a destroy of several snapshots.
     pub fn ask_line(&mut self, way: Way, line: &str, told: &mut Vec<u8>) -> Result<(), AllocError> {
+        let (word, words) = parted(line);
+        if word == "destroys" {
+            return self.ask_destroys(way, words, told);
+        }
         self.way = way;
         ask(self.alloc, self, line, told)
+    }
+
+    /// Asks a destroy of the snapshots that the words name in a way, and tells its reply.
+    pub fn ask_destroys(
+        &mut self,
+        way: Way,
+        words: &str,
+        told: &mut Vec<u8>,
+    ) -> Result<(), AllocError> {
+        self.way = way;
+        match destroy_of(self.alloc, words) {
+            Ok(request) => {
+                let mut reply = Reply::Done;
+                self.ask(request, &mut reply);
+                let outcome = tell_reply(self.alloc, &reply, told);
+                drop_reply(reply);
+                outcome
+            }
+            Err(refusal) => tell_refusal(self.alloc, told, refusal),
+        }
     }
 
     /// Runs the lines between semicolons as a list, and tells the replies.

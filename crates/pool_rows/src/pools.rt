@@ -108,6 +108,7 @@ impl Pools {
             "two" => asked.ask_line(Way::InTwo, rest, told),
             "left" => asked.ask_line(Way::Left, rest, told),
             "list" => asked.run_list(rest, told),
+            "destroys" => asked.ask_destroys(Way::AtOnce, rest, told),
             "take" => take(alloc, &mut asked.pool, rest, told),
             "stops" => tell_stops(alloc, &mut asked.pool, rest, told),
             "walks" => tell_walks(alloc, &asked.pool, rest == "last", told),

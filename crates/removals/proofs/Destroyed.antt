@@ -4,14 +4,13 @@ use Rattle.std.proofs.lemmas.List.{map-append, take_more}
 use Rattle.std.specs.Prelude.{nat_lt, is_some}
 use Rattle.std.specs.List.{filter, flat_map, list_any}
 use Rattle.std.specs.Option.{option_map, option_map_or}
-use Rattle.std.specs.FinMap.{get, keys, same_map}
+use Rattle.std.specs.FinMap.{get, same_map}
 use Rattle.base.specs.declared.refusal.Refusal.TheVariants.{NoDataset, Busy, HasClones}
 use Rattle.base.specs.declared.refusal.Refusal.{Refusal}
-use Rattle.base.specs.Names.{same_name, is_descendant}
-use Rattle.base.specs.Surveys.{IsIn, AreDifferent}
+use Rattle.base.specs.Surveys.{IsIn}
 use Rattle.base.specs.declared.name.member.Member.{Member}
 use Rattle.model.specs.declared.destroy_target.DestroyTarget.TheVariants.{Snapshots as SnapshotsGo}
-use Rattle.model.specs.World.{World, FileSystem, Snap, SnapId, id_of, same_id, snap_named, family_of}
+use Rattle.model.specs.World.{World, FileSystem, Snap, SnapId, id_of, same_id, snap_named}
 use Rattle.model.specs.State.{Views}
 use Rattle.model.specs.Outcome.{is_needed}
 use Rattle.model.specs.Edits.{without_snaps}
@@ -22,13 +21,11 @@ use Rattle.world.specs.Shapes.{Name, name_order}
 use Rattle.world.specs.Worlds.{AreFileSystems}
 use Rattle.world.specs.Tables.{Datasets, world_of, without_snap, deferred_snap}
 use Rattle.world.proofs.removals.Sweep.{get-with_file_systems}
-use Rattle.world.proofs.lists.Finding.{append_none, any_none, or_none, from_flat, in_filter, same_id_is}
-use Rattle.world.proofs.lists.Listed.{in_map, map_in, length-mapped}
-use Rattle.world.proofs.lists.Lists.{once_filter}
+use Rattle.world.proofs.lists.Finding.{any_none, or_none, from_flat, in_filter, same_id_is}
+use Rattle.world.proofs.lists.Listed.{map_in, length-mapped}
 use Rattle.world.proofs.lists.Maps.{no_value}
 use Rattle.world.proofs.lineage.Bridge.{one_snap}
-use Rattle.world.proofs.removals.WithoutSnaps.{any_from, get-without, without_twice, without_none}
-use Rattle.snap.specs.Taking.{all_of}
+use Rattle.world.proofs.removals.WithoutSnaps.{get-without, without_twice, without_none}
 use Rattle.removals.specs.Found.{found_in, AreThere, removed_or_deferred}
 use Rattle.removals.specs.Needs.{has_clone, is_held}
 use Rattle.removals.specs.Requests.{destroy_refusal}
@@ -36,7 +33,6 @@ use Rattle.removals.proofs.Clones.{outside_is}
 use Rattle.removals.proofs.Deferring.{marked_by, by_one, deferred_none, deferred_twice, deferred_gone}
 use Rattle.removals.proofs.Identified.{neither, one_of_more}
 use Rattle.removals.proofs.Needed.{any_alike, is_held_at, held_at, named_there, found_there, system_at}
-use Rattle.removals.proofs.Once.{names_once}
 use Rattle.removals.proofs.Seen.{any_value}
 use Rattle.removals.proofs.Swept.{same_clones}
 

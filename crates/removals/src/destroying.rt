@@ -156,14 +156,7 @@ pub fn destroy(
             alloc, table, freeing, views, name, recursive, defer, segments,
         ),
         DestroyTarget::Snapshots(names) => destroy_snapshots(
-            alloc,
-            table,
-            freeing,
-            views,
-            names.as_slice(),
-            recursive,
-            defer,
-            segments,
+            alloc, table, freeing, views, names, recursive, defer, segments,
         ),
         DestroyTarget::Bookmark(name) => remove_bookmark(alloc, table, name),
     }

@@ -11,10 +11,10 @@ ghost use Rattle.removals.specs.Requests.{destroyed, destroy_refusal};
 use crate::found::{find_all, refusal_of};
 use crate::working_copy::WorkingCopy;
 use base::meter::SegMeter;
-use base::name::SnapName;
 use base::refusal::Refusal;
 use datasets::Table;
 use destroyer::Freeing;
+use model::snap_names::SnapNames;
 use std::alloc::Global;
 use views::Views;
 
@@ -30,7 +30,7 @@ pub(crate) fn destroy_snapshots(
     table: &mut Table,
     freeing: &mut Freeing,
     views: &Views,
-    names: &[SnapName],
+    names: &SnapNames,
     recursive: bool,
     defer: bool,
     segments: &mut SegMeter,
@@ -46,7 +46,7 @@ pub(crate) fn destroy_snapshots(
     ensures never_lower { segments.old ≤ segments.new }
 {
     table.facts();
-    let all = find_all(alloc, table, names, recursive)?;
+    let all = find_all(alloc, table, names.as_slice(), recursive)?;
     if let Some(refusal) = refusal_of(table, views, &all, defer) {
         return Err(refusal);
     }

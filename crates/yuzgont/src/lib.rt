@@ -37,6 +37,7 @@ pub use base::number::{BlockNo, Group, Guid};
 pub use base::refusal::Refusal;
 pub use base::text::Bytes;
 pub use image::Image;
+pub use model::destroy_target::DestroyTarget;
 pub use model::entry::{Entry, KeptReply};
 pub use model::limits::{Limit, Limits};
 pub use model::names::Names;

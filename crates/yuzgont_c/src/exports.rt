@@ -258,7 +258,8 @@ pub extern "C" fn yuzgont_destroy_snapshots(
 ) -> i32
     ensures { Codes result (λ answer. Calls (Does (asked_destroy_snapshots names.now recursive defer)) pool.old.slot.host answer pool.new.slot.host) }
 {
-    pool.destroy_snapshots(alloc, names, recursive, defer).code()
+    pool.destroy_snapshots(alloc, names, recursive, defer)
+        .code()
 }
 
 /// Promotes a clone, as `YuzPool::promote`.

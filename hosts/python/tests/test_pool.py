@@ -103,6 +103,36 @@ class Snapshots(Case):
         self.pool.destroy("p/a", recursive=True)
         self.assertEqual(self.pool.list(), ["p", "p@s"])
 
+    def test_destroys_of_several(self):
+        self.pool.create("p/a")
+        for name in "1234":
+            self.pool.write("p", 0, 0, name.encode())
+            self.pool.snapshot(f"p@{name}", recursive=True)
+        self.pool.write("p", 0, 0, b"5")
+        self.pool.destroy_snapshots(["p@3", "p/a@2", "p@none", "p@1", "p@3"])
+        self.assertEqual(self.pool.list(), ["p", "p@2", "p@4", "p/a", "p/a@1", "p/a@3", "p/a@4"])
+        self.assertEqual(self.pool.pool_get("freeing"), 2 * FIRST)
+        self.pool.destroy_snapshots(["p@4", "p/a@1"], recursive=True)
+        self.assertEqual(self.pool.list(), ["p", "p@2", "p/a", "p/a@3"])
+
+    def test_destroys_of_several_are_all_or_none(self):
+        for name in "123":
+            self.pool.snapshot(f"p@{name}")
+        self.pool.clone("p@2", "p/c")
+        self.refused(yuzgont.HasClones, self.pool.destroy_snapshots, ["p@1", "p@2"])
+        self.pool.hold("kept", "p@3")
+        self.refused(yuzgont.Busy, self.pool.destroy_snapshots, ["p@1", "p@2", "p@3"])
+        self.refused(yuzgont.NoDataset, self.pool.destroy_snapshots, ["p@4", "p/a@1"])
+        self.refused(yuzgont.BadName, self.pool.destroy_snapshots, ["p@1", "p"])
+        self.refused(yuzgont.BadName, self.pool.destroy_snapshots, ["p@1 p@2"])
+        self.refused(yuzgont.BadName, self.pool.destroy_snapshots, [])
+        self.assertRaises(TypeError, self.pool.destroy_snapshots, [b"p@1"])
+        self.pool.destroy_snapshots(iter(["p@1", "p@2", "p@3"]), deferred=True)
+        self.assertEqual([self.pool.get(f"p@{name}", "defer_destroy") for name in "23"], [True, True])
+        self.pool.release("kept", "p@3")
+        self.pool.destroy("p/c")
+        self.assertEqual(self.pool.list(), ["p"])
+
     def test_clones(self):
         self.pool.write("p", 0, 0, filled(1))
         self.pool.snapshot("p@s")

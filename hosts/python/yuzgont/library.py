@@ -28,6 +28,7 @@ _PARAMETERS = {
     "read": (*_BYTES, c_uint32, c_uint32, *_BUFFER, _FLAG),
     "punch": (*_BYTES, c_uint32, c_uint32),
     "snapshot": (*_BYTES, c_bool),
+    "destroy_snapshots": (*_BYTES, c_bool, c_bool),
     "get": (*_BYTES, c_uint32, _NUMBER),
     "sync": (_NUMBER,),
     "slice": (c_uint64, _NUMBER),

@@ -139,6 +139,12 @@ class Pool:
         """Lets a file system, a snapshot or a bookmark go: destroy [-r] [-d]."""
         self._line("destroy", *["-r"] * recursive, *["-d"] * deferred, _word(target))
 
+    def destroy_snapshots(self, names, recursive=False, deferred=False):
+        """Lets snapshots go, all or none of them: with `recursive` also those of their names below, with `deferred` each once nothing needs it. A
+        name that no snapshot has is passed over; NoDataset where none has one. BadName where the list is empty."""
+        spelled = " ".join(_word(name) for name in names).encode()
+        self._do("destroy_snapshots", spelled, len(spelled), bool(recursive), bool(deferred), what=f"destroy {spelled.decode()}")
+
     def list(self):
         """The names of all file systems in byte order, each with its snapshots, oldest first, and then its bookmarks."""
         return self._line("list").split()

@@ -120,8 +120,12 @@ impl Pool {
     }
 
     /// Lets snapshots go, all or none of them: with `recursive` also those of their names below, with `defer` once nothing needs them. Names that no
-    /// snapshot has are passed over; `NoDataset` where none has one.
+    /// snapshot has are passed over; `NoDataset` where none has one. `BadName` where the list is empty.
     pub fn destroy_snapshots(&mut self, names: &[&str], recursive: bool, defer: bool) -> Result<(), Error> {
+        // A name with a space would be two.
+        if names.iter().any(|name| name.contains(' ')) {
+            return Err(Error::BadName);
+        }
         let names = names.join(" ");
         Error::check(unsafe { sys::yuzgont_destroy_snapshots(self.handle(), names.as_ptr(), names.len(), recursive, defer) })
     }

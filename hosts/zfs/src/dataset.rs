@@ -49,6 +49,8 @@ pub struct FileSystem {
     pub is_mounted: bool,
     /// Where it is mounted, if that isn't its mountpoint: a rename with `-u` leaves it where it was.
     pub mounted_at: Option<String>,
+    /// Whether a receive went over its refquota. The layer's is what it refers to as long as that is more.
+    pub is_over_refquota: bool,
     /// The options of its mount, which stand for properties as long as it is mounted.
     pub mount_options: Vec<String>,
     /// What a resumable receive that was cut has left.
@@ -385,6 +387,7 @@ mod tests {
             hidden: BTreeSet::new(),
             is_mounted: false,
             mounted_at: None,
+            is_over_refquota: false,
             mount_options: Vec::new(),
             partial: None,
             snapshots: Vec::new(),

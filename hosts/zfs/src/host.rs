@@ -29,6 +29,8 @@ pub struct Host {
     pub tree: Tree,
     pub facts: PoolFacts,
     pub history: Vec<String>,
+    /// When the pool was scrubbed last, by the client's clock.
+    pub scrubbed: Option<i64>,
     /// The tree at the layer's last sync.
     settled: Tree,
     /// The layer's open group.
@@ -55,7 +57,7 @@ impl Host {
     pub fn create(name: String, blocks: u32, clock: i64, facts: PoolFacts) -> Result<Host, Refusal> {
         let layer = Layer::create(random() as u32 | 1, blocks)?;
         let (tree, settled) = (Tree::new(), Tree::new());
-        let mut host = Host { name: name.clone(), layer, tree, facts, history: Vec::new(), settled, group: 1 };
+        let mut host = Host { name: name.clone(), layer, tree, facts, history: Vec::new(), scrubbed: None, settled, group: 1 };
         host.layer.write(ROOT, MASTER.0, MASTER.1, &[1])?;
         let root = host.new_file_system(ROOT.into(), Kind::FileSystem, clock);
         host.tree.insert(name, root);
@@ -76,6 +78,7 @@ impl Host {
             hidden: BTreeSet::new(),
             is_mounted: false,
             mounted_at: None,
+            is_over_refquota: false,
             mount_options: Vec::new(),
             partial: None,
             snapshots: Vec::new(),
@@ -85,6 +88,7 @@ impl Host {
 
     /// Frees what was let go, and closes the group, so that space is back at once and two commands are never in one group.
     fn settle(&mut self) -> Result<(), Refusal> {
+        self.bind_refquotas()?;
         self.layer.free_all()?;
         self.group = self.layer.sync()?;
         if self.layer.number("pget waiting")? > 0 {

@@ -104,6 +104,11 @@ impl Layer {
         self.ask(line)?.parse().map_err(|_| Refusal::Unexpected(0))
     }
 
+    /// Destroys snapshots in one request, all or none of them. Those that are gone are passed over; NoDataset where all are.
+    pub fn destroy_snapshots(&mut self, names: &[&str], is_deferred: bool) -> Result<(), Refusal> {
+        Ok(self.pool.destroy_snapshots(names, false, is_deferred)?)
+    }
+
     /// A property that is a number.
     pub fn get(&mut self, name: &str, property: Property) -> Result<u64, Refusal> {
         Ok(self.pool.get(name, property)?)

@@ -37,6 +37,13 @@ impl Host {
         if is_volume || self.can_mount(name) != "on" { Ok(()) } else { self.mount(name) }
     }
 
+    /// Mounts file systems that were made. What OpenZFS says of those that can't be.
+    pub fn mount_made(&mut self, names: &[String]) -> Vec<String> {
+        let told = names.iter().filter_map(|name| self.tree.has(name).then(|| self.mount_new(name).err())?).collect();
+        self.settle_names();
+        told
+    }
+
     /// Mounts all that isn't mounted. What OpenZFS says of those that can't be.
     pub fn mount_all(&mut self) -> Vec<String> {
         let names: Vec<String> = self.tree.iter().filter(|(_, it)| !it.is_mounted).map(|(name, _)| name.clone()).collect();

@@ -129,6 +129,17 @@ pub fn date(seconds: i64) -> String {
     }
 }
 
+/// A time as ctime(3) tells it: `Sat May  1 12:30:07 2027`.
+pub fn exact_date(seconds: i64) -> String {
+    match crate::sys::local_time(seconds) {
+        Some(time) => {
+            let (day, month) = (DAYS[time.week_day % 7], MONTHS[time.month % 12]);
+            format!("{day} {month} {:2} {:02}:{:02}:{:02} {}", time.day, time.hour, time.minute, time.second, time.year)
+        }
+        None => seconds.to_string(),
+    }
+}
+
 #[cfg(test)]
 mod tests {
     use super::*;

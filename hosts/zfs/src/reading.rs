@@ -8,9 +8,13 @@ use crate::output;
 use crate::property::{Form, Native, Property, Source};
 use crate::size;
 use crate::stream::token;
+use crate::stream::younger::younger_blocks;
 use std::collections::BTreeSet;
 use std::rc::Rc;
 use yuzgont::Property as Number;
+
+/// The bytes of a block.
+const BLOCK: u64 = 512;
 
 /// The most bytes of a value that is shown, as of a list of clones: libzfs has no room for more.
 const SHOWN_LIMIT: usize = 4095;
@@ -249,15 +253,41 @@ impl Host {
     }
 
     fn written_since(&mut self, dataset: &Dataset, since: &str) -> Value {
-        let component = since.strip_prefix('@');
-        let target = match component {
-            Some(whole) if whole.contains('@') => whole.to_owned(),
-            Some(component) => format!("{}@{component}", name::base(&dataset.name)),
-            None => return Value::none(),
-        };
+        let component = &since[1..];
+        let target = if component.contains(['@', '#']) { component.to_owned() } else { format!("{}{since}", name::base(&dataset.name)) };
         let Some(target) = self.tree.find(&target) else { return Value::none() };
-        let written = self.layer.ask(&format!("get written@{} {}", target.path, dataset.path));
-        written.map_or_else(|_: Refusal| Value::none(), Value::plain)
+        let written = match target.part {
+            Part::Whole => return Value::none(),
+            Part::Snapshot(_) => self.written_since_snapshot(dataset, &target),
+            Part::Bookmark(_) => self.written_since_bookmark(dataset, &target),
+        };
+        written.map_or_else(|_| Value::none(), |bytes| Value::plain(bytes.to_string()))
+    }
+
+    fn written_since_snapshot(&mut self, dataset: &Dataset, since: &Dataset) -> Result<u64, Refusal> {
+        self.layer.number(&format!("get written@{} {}", since.path, dataset.path))
+    }
+
+    /// What was written since the bookmark's snapshot. Where that is gone, it is the blocks that a send from the bookmark tells of.
+    fn written_since_bookmark(&mut self, dataset: &Dataset, since: &Dataset) -> Result<u64, Refusal> {
+        let snapshot = self.by_guid(name::base(&since.name), since.guid());
+        if let Some(written) = snapshot.and_then(|snapshot| self.written_since_snapshot(dataset, &snapshot).ok()) {
+            return Ok(written);
+        }
+        let stream = match dataset.part {
+            Part::Whole => self.stream_of_now(&dataset.path, &since.path)?,
+            _ => self.layer.stream(&dataset.path, Some(&since.path), 0)?,
+        };
+        Ok(BLOCK * younger_blocks(&stream).ok_or(Refusal::BadStream)?)
+    }
+
+    /// The stream of a file system as it is now. The snapshot for it goes again.
+    fn stream_of_now(&mut self, path: &str, from: &str) -> Result<Vec<u8>, Refusal> {
+        let now = format!("{path}@{}", self.tree.next_component());
+        self.layer.order(&format!("snapshot {now}"))?;
+        let stream = self.layer.stream(&now, Some(from), 0);
+        self.layer.order(&format!("destroy {now}"))?;
+        stream
     }
 
     /// The user properties that a dataset has or inherits.

@@ -89,11 +89,35 @@ impl Host {
             self.destroy_whole(&child)?;
             self.follow_layer();
         }
-        for snapshot in self.tree.snapshots(name) {
-            let gone = self.layer.order(&format!("destroy {}", snapshot.path));
-            gone.map_err(|refusal| Failure::Cannot(Action::DestroySnapshot(snapshot.name), refusal.into()))?;
+        self.destroy_snapshots(&self.tree.snapshots(name), false)
+    }
+
+    /// Destroys snapshots, all or none of them. One that something has taken with it is gone already.
+    pub fn destroy_snapshots(&mut self, doomed: &[Dataset], is_deferred: bool) -> Outcome {
+        if doomed.is_empty() {
+            return Ok(());
         }
-        Ok(())
+        let paths: Vec<&str> = doomed.iter().map(|snapshot| snapshot.path.as_str()).collect();
+        match self.layer.destroy_snapshots(&paths, is_deferred) {
+            Ok(()) | Err(Refusal::NoDataset) => {
+                self.follow_layer();
+                Ok(())
+            }
+            Err(refusal) => Err(self.not_gone(doomed, refusal)),
+        }
+    }
+
+    /// Says of each snapshot that stands in the way of a destroy what keeps it.
+    fn not_gone(&mut self, doomed: &[Dataset], refusal: Refusal) -> Failure {
+        let mut told = Vec::new();
+        for snapshot in doomed.iter().filter(|_| matches!(refusal, Refusal::Busy | Refusal::HasClones)) {
+            let is_held = snapshot.snapshot().is_some_and(|it| !it.holds.is_empty());
+            if is_held || self.clones(snapshot).is_ok_and(|clones| !clones.is_empty()) {
+                let reason = if is_held { Reason::Busy } else { Reason::SnapshotIsCloned };
+                told.push(Failure::Cannot(Action::DestroySnapshot(snapshot.name.clone()), reason));
+            }
+        }
+        if told.is_empty() { Failure::Cannot(Action::DestroySnapshots, refusal.into()) } else { Failure::Several(told) }
     }
 
     /// Takes a bookmark away, and the layer's with the last that stands for it.

@@ -3,10 +3,11 @@
 use crate::dataset::{Dataset, FileSystem, Kind, Part, Values};
 use crate::failure::{Failure, Outcome, Reason};
 use crate::host::Host;
-use crate::layer::Refusal;
+use crate::layer::{Layer, Refusal};
 use crate::property::{value, Kinds, Native, Property};
 use crate::size;
 use std::collections::BTreeSet;
+use yuzgont::Property as Number;
 
 /// A property and the value that is to be set.
 #[derive(Clone, Debug, PartialEq, Eq)]
@@ -18,6 +19,9 @@ pub struct Setting {
 /// The largest limit of the layer, and the bytes of its blocks: a limit is a multiple of them.
 const LIMIT_MOST: u64 = 1 << 49;
 const BLOCK: u64 = 512;
+
+/// How far a receive may go over a refquota: as far as one transaction of ZFS may, DMU_MAX_ACCESS times spa_asize_inflation.
+const REFQUOTA_SLACK: u64 = 24 * (64 << 20);
 
 /// The bytes of a volume's block where nothing is said.
 pub const VOLUME_BLOCK: u64 = 8192;
@@ -174,18 +178,48 @@ impl Host {
             _ => value.parse().map_err(|_| Reason::Text(format!("bad numeric value '{value}'")))?,
         };
         self.check_limit(&whole, native, number)?;
-        let blocks = number.min(LIMIT_MOST).div_ceil(BLOCK) * BLOCK;
-        self.layer.order(&format!("set {native}={blocks} {}", whole.path)).map_err(|refusal| match (native, refusal) {
+        self.layer.order(&format!("set {native}={} {}", in_blocks(number), whole.path)).map_err(|refusal| match (native, refusal) {
             (_, Refusal::NoMemory) => Reason::NoMemory,
             (Native::Quota | Native::RefQuota, _) => Reason::LimitBelowUse,
             _ => Reason::TooBigLimit,
         })?;
-        let local = self.local(name)?;
-        local.insert(native.name().to_owned(), number.to_string());
+        let file_system = self.tree.edit(name).ok_or(Reason::NoDataset)?;
+        file_system.local.insert(native.name().to_owned(), number.to_string());
         if number == 0 {
-            local.remove(native.name());
+            file_system.local.remove(native.name());
         }
+        file_system.is_over_refquota &= native != Native::RefQuota;
         Ok(())
+    }
+
+    /// Runs a receive onto a file system. As in ZFS its refquota doesn't bind that: it may go over it, but by no more than the slack.
+    pub fn receive_over_refquota(&mut self, base: &str, receive: impl FnOnce(&mut Layer) -> Result<(), Refusal>) -> Result<(), Refusal> {
+        let file_system = self.tree.get(base).ok_or(Refusal::NoDataset)?;
+        let (path, refquota) = (file_system.path.clone(), refquota_of(file_system));
+        if refquota == 0 {
+            return receive(&mut self.layer);
+        }
+        self.layer.order(&format!("set refquota=none {path}"))?;
+        receive(&mut self.layer)?;
+        if self.layer.get(&path, Number::Referenced)? > refquota.saturating_add(REFQUOTA_SLACK) {
+            return Err(Refusal::RefQuota);
+        }
+        self.bind_refquota(base)
+    }
+
+    /// Gives the layer a file system's refquota, or what it refers to where that is more.
+    fn bind_refquota(&mut self, base: &str) -> Result<(), Refusal> {
+        let file_system = self.tree.edit(base).ok_or(Refusal::NoDataset)?;
+        let refquota = in_blocks(refquota_of(file_system));
+        let referenced = self.layer.get(&file_system.path, Number::Referenced)?;
+        file_system.is_over_refquota = referenced > refquota;
+        self.layer.order(&format!("set refquota={} {}", refquota.max(referenced), file_system.path))
+    }
+
+    /// Does so where a receive went over it: what a file system refers to may be less now.
+    pub fn bind_refquotas(&mut self) -> Result<(), Refusal> {
+        let over: Vec<String> = self.tree.iter().filter(|(_, it)| it.is_over_refquota).map(|(name, _)| name.clone()).collect();
+        over.iter().try_for_each(|name| self.bind_refquota(name))
     }
 
     /// What ZFS asks beside what the layer does: a quota is at least the reservation of the same kind, and a reservation fits.
@@ -243,6 +277,17 @@ impl Host {
         }
         Ok(())
     }
+}
+
+/// A limit as the layer has it, rounded up to blocks.
+fn in_blocks(number: u64) -> u64 {
+    number.min(LIMIT_MOST).div_ceil(BLOCK) * BLOCK
+}
+
+/// A file system's refquota, set or received; 0 where it has none.
+fn refquota_of(file_system: &FileSystem) -> u64 {
+    let text = file_system.local.get("refquota").or_else(|| file_system.received.get("refquota"));
+    text.and_then(|text| text.parse().ok()).unwrap_or(0)
 }
 
 /// What is reserved for a volume of this size, with the blocks of one that is there.

@@ -26,26 +26,22 @@ def plain(text):
 
 
 def begin(stream):
-    """OpenZFS's DRR_BEGIN record (include/sys/zfs_ioctl.h) of a whole stream with one step and without properties; of others nothing.
+    """OpenZFS's DRR_BEGIN record (include/sys/zfs_ioctl.h) of a whole stream that isn't compound; of others nothing.
     The stream's format is src/stream/format.rs's."""
     records, at = [], 8
-    while stream[:8] == b'YUZZFS02' and len(stream) >= at + 13:
+    while stream[:8] == b'YUZZFS03' and len(stream) >= at + 13:
         kind, head, body = struct.unpack_from('>cIQ', stream, at)
         records.append((kind, stream[at + 13:at + 13 + head]))
         at += 13 + head + 8 + body
     if at != len(stream) or [kind for kind, _ in records] != [b'B', b'S', b'E']:
         return b''
     length, = struct.unpack_from('>Q', records[0][1])
-    is_replication, = struct.unpack_from('>Q', records[0][1], 8 + length)
+    is_compound, = struct.unpack_from('>Q', records[0][1], 8 + length + 16)
+    if is_compound:
+        return b''
     step = records[1][1]
     length, = struct.unpack_from('>Q', step)
-    name, (to, since, is_clone, creation, is_volume, sizes) = step[8:8 + length], struct.unpack_from('>6Q', step, 8 + length)
-    rest = 8 + length + 48
-    for _ in range(2 * sizes):
-        rest += 8 + struct.unpack_from('>Q', step, rest)[0]
-    has_properties, = struct.unpack_from('>Q', step, rest)
-    if is_replication or has_properties:
-        return b''
+    name, (to, since, is_clone, creation, is_volume) = step[8:8 + length], struct.unpack_from('>5Q', step, 8 + length)
     # a substream with the spill blocks of system attributes and records of what is freed
     return struct.pack('<IIQQQIIQQ256s', 0, 0, 0x2F5bacbac, 1 | 4 << 2, creation, 3 if is_volume else 2, 4 | is_clone, to, since, name)
 

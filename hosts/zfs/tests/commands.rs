@@ -68,6 +68,35 @@ fn a_range_of_snapshots_is_destroyed() {
 }
 
 #[test]
+fn several_snapshots_go_together_or_not_at_all() {
+    let world = World::with_pool();
+    world.run("zfs create -p tank/a/b
+        zfs snapshot -r tank/a@1
+        zfs snapshot -r tank/a@2
+        zfs snapshot -r tank/a@3
+        zfs snapshot tank/a@4
+        zfs hold keep tank/a/b@3");
+    let all = names(&world, "tank/a");
+    let refused = |line: &str, held: &[&str]| {
+        let err = held.iter().map(|name| format!("cannot destroy snapshot {name}: dataset is busy\n")).collect();
+        assert_eq!(world.line(line), Said { status: 1, out: String::new(), err }, "{line}");
+        assert_eq!(names(&world, "tank/a"), all);
+    };
+    refused("zfs destroy -r tank/a@1%3", &["tank/a/b@3"]);
+    world.run("zfs hold keep tank/a@2");
+    refused("zfs destroy -r tank/a@%", &["tank/a@2", "tank/a/b@3"]);
+    refused("zfs destroy tank/a@4,2,1", &["tank/a@2"]);
+    world.run("zfs destroy -r -d tank/a@1%3,none");
+    assert_eq!(names(&world, "tank/a"), ["tank/a", "tank/a@2", "tank/a@4", "tank/a/b", "tank/a/b@3"]);
+    world.run("zfs release keep tank/a@2
+        zfs release keep tank/a/b@3
+        zfs snapshot tank@r
+        zfs snapshot tank@s
+        zfs destroy -r tank");
+    assert_eq!(names(&world, "tank"), ["tank"]);
+}
+
+#[test]
 fn a_clone_is_promoted_over_its_origin() {
     let world = World::with_pool();
     world.run("zfs create tank/a
@@ -209,6 +238,67 @@ fn a_mountpoint_that_is_a_file_is_set_and_not_mounted() {
     assert_eq!(world.line(&format!("zfs clone -o mountpoint={file} tank/c@s tank/d")), no_folder("tank/d", created));
     assert_eq!(world.line("zfs mount tank/c").err, "cannot mount 'tank/c': Not a directory\n");
     assert_eq!(names(&world, "tank"), ["tank", "tank/a", "tank/b", "tank/c", "tank/c@s", "tank/d"]);
+}
+
+/// As `zfs_prop_get_written_int` of OpenZFS 2.1.11 reads the name: a bookmark's may stand behind either sign, with its file system or without.
+#[test]
+fn what_was_written_since_a_bookmark_is_told() {
+    let world = World::with_pool();
+    world.run("zfs create tank/a
+        zfs yuz-write tank/a 0 0 8 61
+        zfs snapshot tank/a@1
+        zfs bookmark tank/a@1 tank/a#one
+        zfs bookmark tank/a#one tank/a#two
+        zfs yuz-write tank/a 0 4 8 62
+        zfs snapshot tank/a@2
+        zfs yuz-write tank/a 1 0 1 63
+        zfs snapshot tank/a@3
+        zfs clone tank/a@2 tank/c");
+    let names = ["tank/a", "tank/a@2", "tank/a@3", "tank/a@1", "tank/c"];
+    let since = |property: &str| names.map(|name| value(&world, property, name));
+    let written = since("written@tank/a@1");
+    assert!(written[0] != "0" && written[3] == "-");
+    for property in ["written#tank/a#one", "written@tank/a#two", "written#tank/a@1"] {
+        assert_eq!(since(property), written, "{property}");
+    }
+    assert_eq!(value(&world, "written#one", "tank/a"), written[0]);
+    // The snapshot goes, and the bookmark stays. A clone's bookmarks are its own.
+    world.run("zfs destroy tank/a@1");
+    let before = world.state();
+    for property in ["written#one", "written#tank/a#two"] {
+        let told: Vec<String> = names[..3].iter().map(|name| value(&world, property, name)).collect();
+        assert_eq!(told, written[..3], "{property}");
+    }
+    assert_eq!(world.run("zfs list -Hp -o written#one,written@one tank/a"), format!("{}\t-\n", written[0]));
+    for (property, name) in [("written#none", "tank/a"), ("written#one", "tank/c"), ("written#tank/a#one", "tank/c"), ("written#one", "tank/a#two")] {
+        assert_eq!(value(&world, property, name), "-", "{property} {name}");
+    }
+    assert_eq!(world.state(), before);
+}
+
+/// The texts are those of `zfs_receive` and `zfs_mount_at` of OpenZFS 2.1.11, which mounts what was received at the end of all.
+#[test]
+fn a_received_file_system_that_can_t_be_mounted_is_told() {
+    let world = World::with_pool();
+    let file = world.folder.join("tank.img").to_str().unwrap().to_owned();
+    world.run("zfs create -p tank/a/b
+        zfs snapshot -r tank/a@s
+        zfs snapshot -r tank/a@t");
+    let place = format!("mountpoint={file}");
+    let unmounted = "cannot mount 'tank/c': Not a directory\n";
+    let said = world.receive(&world.stream(&["tank/a@s"]), &["-o", &place, "tank/c"]);
+    assert_eq!(said, Said { status: 1, out: String::new(), err: unmounted.into() });
+    assert_eq!((value(&world, "mounted", "tank/c"), value(&world, "mountpoint", "tank/c")), ("no".into(), file.clone()));
+    let said = world.receive(&world.stream(&["-i", "@s", "tank/a@t"]), &["tank/c"]);
+    assert_eq!(said, Said { status: 0, out: String::new(), err: String::new() });
+    world.run("zfs destroy -r tank/c");
+    let said = world.receive(&world.stream(&["tank/a@s"]), &["-u", "-o", &place, "tank/c"]);
+    assert_eq!(said.status, 0, "{said:?}");
+    world.run("zfs destroy -r tank/c");
+    let below = format!("{unmounted}cannot mount '{file}/b': failed to create mountpoint: Not a directory\n");
+    let said = world.receive(&world.stream(&["-R", "tank/a@t"]), &["-o", &place, "tank/c"]);
+    assert_eq!(said, Said { status: 1, out: String::new(), err: below });
+    assert_eq!(names(&world, "tank/c"), ["tank/c", "tank/c@s", "tank/c@t", "tank/c/b", "tank/c/b@s", "tank/c/b@t"]);
 }
 
 /// A bookmark keeps what its snapshot referenced, as the feature `bookmark_written` has it; so has a bookmark of it.
@@ -493,6 +583,92 @@ fn a_replication_brings_properties_of_snapshots_that_are_there() {
         zfs snapshot tank/a@t");
     assert_eq!(world.receive(&world.stream(&["-R", "-I", "@s", "tank/a@t"]), &["tank/z"]).status, 0);
     assert_eq!(world.run("zfs get -H -o value,source my:note tank/z@s"), "late\treceived\n");
+}
+
+/// As `print_scan_scrub_resilver_status` of OpenZFS 2.1.11 has it: no line where nothing was ever scrubbed.
+#[test]
+fn a_scrub_is_told_by_zpool_status() {
+    let world = World::with_pool();
+    world.pool("back");
+    let lines = |pool: &str| world.run(&format!("zpool status {pool}")).lines().map(str::to_owned).collect::<Vec<_>>();
+    let before = lines("tank");
+    assert!(before.iter().all(|line| !line.contains("scan:")), "{before:?}");
+    world.run("zpool scrub tank");
+    let after = lines("tank");
+    assert!(after[2].starts_with("  scan: scrub repaired 0B in 00:00:00 with 0 errors on "), "{after:?}");
+    let date: Vec<&str> = after[2].rsplit(' ').take(5).filter(|word| !word.is_empty()).collect();
+    assert!(date[0].len() == 4 && date[1].len() == 8 && date[1].matches(':').count() == 2, "{after:?}");
+    assert_eq!([&after[..2], &after[3..]].concat(), before);
+    assert_eq!(world.line("zpool scrub -s tank").status, 1);
+    assert!(lines("back").iter().all(|line| !line.contains("scan:")));
+    world.run("zpool export tank
+        zpool import tank");
+    assert_eq!(lines("tank"), after);
+}
+
+/// As `dsl_dataset_clone_swap_check_impl` of OpenZFS 2.1.11 has it: a refquota doesn't bind a receive but by the slack of a transaction.
+#[test]
+fn a_receive_goes_over_a_refquota() {
+    let world = World::with_pool();
+    world.run("zfs create tank/a
+        zfs yuz-write tank/a 0 0 8 61
+        zfs snapshot tank/a@1
+        zfs yuz-write tank/a 1 0 64 62
+        zfs snapshot tank/a@2
+        zfs yuz-write tank/a 2 0 8 63
+        zfs snapshot tank/a@3");
+    let nothing = Said { status: 0, out: String::new(), err: String::new() };
+    assert_eq!(world.receive(&world.stream(&["tank/a@1"]), &["tank/b"]), nothing);
+    let small: u64 = value(&world, "referenced", "tank/b").parse().unwrap();
+    let refquota = (small + 10 * 512).to_string();
+    world.run(&format!("zfs set refquota={refquota} tank/b"));
+    for (from, to) in [("@1", "tank/a@2"), ("@2", "tank/a@3")] {
+        assert_eq!(world.receive(&world.stream(&["-i", from, to]), &["tank/b"]), nothing);
+    }
+    let referenced = value(&world, "referenced", "tank/b");
+    assert_eq!((referenced.as_str(), value(&world, "refquota", "tank/b")), (value(&world, "referenced", "tank/a").as_str(), refquota.clone()));
+    assert!(referenced.parse::<u64>().unwrap() > small + 64 * 512);
+    // One that comes with the stream is set after it, as far as it can be.
+    let told = "cannot receive refquota property on tank/c: size is less than current used or reserved space\n";
+    assert_eq!(world.receive(&world.stream(&["-p", "tank/b@3"]), &["tank/c"]), Said { status: 0, out: String::new(), err: told.into() });
+    // Nothing is written that makes it refer to more; and once it refers to less, the refquota is what it was.
+    let full = Said { status: 1, out: String::new(), err: "tank/b: Disk quota exceeded\n".into() };
+    assert_eq!(world.line("zfs yuz-write tank/b 9 0 1 64"), full);
+    world.run("zfs rollback -r tank/b@1
+        zfs yuz-write tank/b 0 8 2 64");
+    assert_eq!(world.line("zfs yuz-write tank/b 9 0 8 64"), full);
+    assert_eq!(value(&world, "refquota", "tank/b"), refquota);
+}
+
+/// `zfs_receive_package` of OpenZFS 2.1.11 knows of no origin.
+#[test]
+fn an_origin_is_of_a_lone_stream() {
+    let world = World::with_pool();
+    world.run("zfs create tank/a
+        zfs yuz-write tank/a 0 0 1 61
+        zfs snapshot tank/a@1
+        zfs yuz-write tank/a 0 0 1 62
+        zfs snapshot tank/a@2
+        zfs yuz-write tank/a 0 0 1 63
+        zfs snapshot tank/a@3");
+    let origin = ["-v", "-o", "origin=tank/a@1"];
+    let receive = |words: &[&str], to: &str| world.receive(&world.stream(words), &[&origin, &[to][..]].concat());
+    let provided = "using provided clone origin tank/a@1\n";
+    let said = receive(&["-i", "@1", "tank/a@2"], "tank/b");
+    assert!(said.status == 0 && said.out.starts_with(provided), "{said:?}");
+    assert_eq!(value(&world, "origin", "tank/b"), "tank/a@1");
+    let steps = ["-I", "@1", "tank/a@3"];
+    let said = receive(&steps, "tank/c");
+    assert_eq!((said.status, said.err.as_str()), (1, "cannot receive incremental stream: destination 'tank/c' does not exist\n"));
+    assert_eq!(world.receive(&world.stream(&["tank/a@1"]), &["tank/c"]).status, 0);
+    for (words, to) in [(&steps[..], "tank/c"), (&["-p", "tank/a@1"], "tank/d"), (&["-R", "tank/a@2"], "tank/e")] {
+        let said = receive(words, to);
+        assert!(said.status == 0 && !said.out.contains(provided), "{said:?}");
+        assert_eq!(value(&world, "origin", to), "-");
+    }
+    assert_eq!(names(&world, "tank/c"), ["tank/c", "tank/c@1", "tank/c@2", "tank/c@3"]);
+    let said = world.receive(&world.stream(&steps), &["-o", "origin=tank/a@none", "tank/c"]);
+    assert_eq!((said.status, said.err.as_str()), (1, "cannot receive: specified origin fs (tank/a@none) does not exist\n"));
 }
 
 #[test]

@@ -45,6 +45,34 @@ fn receive_in_modes(pool: &mut Pool) -> Outcome {
     expect(&mut backup, "list", "p p@s p/a p/a@s p/a@t p/b p/b@t")
 }
 
+/// Destroys of several snapshots, all or none of them.
+fn destroy_several() -> Outcome {
+    let mut pool = Pool::create(3, 1000)?;
+    pool.create_file_system("p/a")?;
+    for name in ["p@1", "p@2", "p@3"] {
+        pool.write("p", 0, 0, &[name.as_bytes()[2]; 512])?;
+        pool.snapshot(name, true)?;
+    }
+    pool.clone_snapshot("p@2", "p/c")?;
+    pool.hold("kept", "p/a@3")?;
+    let all = "p p@1 p@2 p@3 p/a p/a@1 p/a@2 p/a@3 p/c";
+    assert_eq!(pool.destroy_snapshots(&["p@1", "p@2"], false, false), Err(Error::HasClones));
+    assert_eq!(pool.destroy_snapshots(&["p@1", "p@3"], true, false), Err(Error::Busy));
+    assert_eq!(pool.destroy_snapshots(&["p@2", "p/a@3"], false, false), Err(Error::Busy));
+    assert_eq!(pool.destroy_snapshots(&["p@4", "p/b@1"], true, true), Err(Error::NoDataset));
+    for wrong in [&["p@1", "p"][..], &["p@1 p@3"], &["p@1", ""], &[]] {
+        assert_eq!(pool.destroy_snapshots(wrong, false, false), Err(Error::BadName));
+    }
+    expect(&mut pool, "list", all)?;
+    pool.destroy_snapshots(&["p@3", "p/a@2", "p@4", "p@3"], false, false)?;
+    expect(&mut pool, "list", "p p@1 p@2 p/a p/a@1 p/a@3 p/c")?;
+    pool.destroy_snapshots(&["p@1", "p@2", "p@3"], true, true)?;
+    expect(&mut pool, "list", "p p@2 p/a p/a@3 p/c")?;
+    pool.release("kept", "p/a@3")?;
+    pool.destroy("p/c", false, false)?;
+    expect(&mut pool, "list", "p p/a")
+}
+
 fn main() -> Outcome {
     let mut pool = Pool::create(1, 1000)?;
     pool.create_file_system("p/a")?;
@@ -89,6 +117,7 @@ fn main() -> Outcome {
     pool.rollback("p/a@t", false)?;
     expect(&mut pool, "read p/a 1 0", "hole")?;
     receive_in_modes(&mut pool)?;
+    destroy_several()?;
     println!("typed: each call tells what its line tells");
     Ok(())
 }

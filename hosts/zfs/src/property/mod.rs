@@ -1,4 +1,4 @@
-//! Properties: the native ones, those of users, and `written@SNAPSHOT`.
+//! Properties: the native ones, those of users, and `written@SNAPSHOT` or `written#BOOKMARK`.
 
 pub mod native;
 pub mod value;

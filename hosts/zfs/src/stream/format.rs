@@ -9,7 +9,7 @@ use crate::dataset::{Kind, Values};
 use std::io::{self, Read, Write};
 
 /// What a stream begins with.
-pub const MAGIC: &[u8; 8] = b"YUZZFS02";
+pub const MAGIC: &[u8; 8] = b"YUZZFS03";
 
 /// The most bytes of a head: some 100,000 names of snapshots.
 const HEAD_LIMIT: usize = 64 << 20;
@@ -35,6 +35,8 @@ pub struct Begin {
     pub is_replication: bool,
     /// Whether a replication starts from a snapshot that the receiver has.
     pub is_incremental: bool,
+    /// Whether OpenZFS would write a stream of streams (DMU_COMPOUNDSTREAM): several snapshots, or what goes with properties or holds.
+    pub is_compound: bool,
     /// Of a replication: all file systems, each with its snapshots.
     pub file_systems: Vec<(String, Vec<Listed>)>,
 }
@@ -107,6 +109,7 @@ impl Encoder {
         self.text(&begin.to_name);
         self.number(u64::from(begin.is_replication));
         self.number(u64::from(begin.is_incremental));
+        self.number(u64::from(begin.is_compound));
         self.number(begin.file_systems.len() as u64);
         for (name, snapshots) in &begin.file_systems {
             self.text(name);
@@ -179,6 +182,7 @@ impl Decoder<'_> {
             to_name: self.text()?,
             is_replication: self.flag()?,
             is_incremental: self.flag()?,
+            is_compound: self.flag()?,
             file_systems: self.list(|it| Some((it.text()?, it.list(Decoder::listed)?)))?,
         })
     }
@@ -331,7 +335,7 @@ mod tests {
     fn begin() -> Begin {
         let listed = |name: &str, guid, properties| Listed { name: name.into(), guid, properties };
         let snapshots = vec![listed("s", 1, Values::new()), listed("t", u64::MAX, Values::from([("a:b".into(), "c".into())]))];
-        Begin { to_name: "tank@t".into(), is_replication: true, is_incremental: true, file_systems: vec![("tank".into(), snapshots)] }
+        Begin { to_name: "tank@t".into(), is_replication: true, is_incremental: true, is_compound: true, file_systems: vec![("tank".into(), snapshots)] }
     }
 
     fn whole() -> Vec<u8> {

@@ -6,6 +6,7 @@ pub mod plan;
 pub mod receive;
 pub mod respell;
 pub mod token;
+pub mod younger;
 
 /// What a resumable receive that was cut has left.
 #[derive(Clone, Debug, PartialEq, Eq)]

@@ -126,7 +126,8 @@ impl Host {
             None => None,
         };
         let step = self.step(wanted, &to, from.as_ref());
-        let begin = Begin { to_name: wanted.name.clone(), ..Begin::default() };
+        let is_compound = wanted.with_properties || wanted.is_backup || wanted.with_holds;
+        let begin = Begin { to_name: wanted.name.clone(), is_compound, ..Begin::default() };
         Ok(Plan { begin, is_package: false, steps: vec![step], warnings: Vec::new() })
     }
 
@@ -225,6 +226,7 @@ impl Host {
             to_name: wanted.name.clone(),
             is_replication: wanted.is_replication,
             is_incremental,
+            is_compound: true,
             file_systems: if wanted.is_replication { names.iter().map(listed).collect() } else { Vec::new() },
         }
     }

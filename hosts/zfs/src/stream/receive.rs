@@ -60,6 +60,17 @@ pub struct Arrived {
     pub is_replication: bool,
 }
 
+/// What comes of a step that was received, beside its snapshot.
+#[derive(Clone, Debug, Default, PartialEq, Eq)]
+pub struct Received {
+    /// What standard error is told of properties.
+    pub told: Vec<String>,
+    /// The same of what can't be mounted, which the command ends with status 1 for.
+    pub unmounted: Vec<String>,
+    /// Whether it made a file system, which is to be mounted once all steps have come.
+    pub is_made: bool,
+}
+
 /// Where a sent snapshot goes.
 pub fn destination(manner: &Manner, begin: &Begin, sent: &str) -> Outcome<String> {
     let receive = |text: &str| Failure::Cannot(Action::Receive, Reason::Text(text.into()));
@@ -104,14 +115,14 @@ impl Step {
 }
 
 impl Host {
-    /// Receives a step: all of it, or nothing. What standard error is told beside.
-    pub fn receive_step(&mut self, manner: &Manner, arrived: &Arrived) -> Outcome<Vec<String>> {
+    /// Receives a step: all of it, or nothing.
+    pub fn receive_step(&mut self, manner: &Manner, arrived: &Arrived) -> Outcome<Received> {
         let base = name::base(&arrived.destination).to_owned();
         if arrived.step.resumes_at.is_none() {
             self.check_receive(manner, &arrived.destination, &arrived.step)?;
         }
         if self.check_begin(manner, &arrived.destination, &arrived.step)? {
-            return Ok(Vec::new());
+            return Ok(Received::default());
         }
         let bytes = self.whole_body(&base, arrived)?;
         let is_new = if self.is_fresh(&base) || arrived.step.wants_new() {
@@ -176,7 +187,8 @@ impl Host {
     fn replace(&mut self, arrived: &Arrived, base: &str, component: &str, bytes: &[u8]) -> Outcome {
         let path = self.tree.get(base).map(|it| it.path.clone()).unwrap_or_default();
         let to = format!("{path}@{component}");
-        self.layer.receive(&to, Receiving::Replace, bytes).map_err(|refusal| not_received(arrived, base, refusal))?;
+        let received = self.receive_over_refquota(base, |layer| layer.receive(&to, Receiving::Replace, bytes));
+        received.map_err(|refusal| not_received(arrived, base, refusal))?;
         self.follow_layer();
         Ok(())
     }
@@ -243,7 +255,8 @@ impl Host {
         let path = self.tree.get(base).map(|it| it.path.clone()).unwrap_or_default();
         let component = self.tree.next_component();
         let mode = if manner.is_forced { Receiving::Past } else { Receiving::Plain };
-        self.layer.receive(&format!("{path}@{component}"), mode, respelled.as_deref().unwrap_or(bytes)).map_err(wrong)?;
+        let (to, bytes) = (format!("{path}@{component}"), respelled.as_deref().unwrap_or(bytes));
+        self.receive_over_refquota(base, |layer| layer.receive(&to, mode, bytes)).map_err(wrong)?;
         if manner.is_forced {
             self.follow_layer();
         }
@@ -254,9 +267,9 @@ impl Host {
     }
 
     /// Takes up what came beside the blocks: properties, volume sizes, holds; and what the command says of properties.
-    fn take_up(&mut self, manner: &Manner, arrived: &Arrived, base: &str, is_new: bool) -> Outcome<Vec<String>> {
+    fn take_up(&mut self, manner: &Manner, arrived: &Arrived, base: &str, is_new: bool) -> Outcome<Received> {
         let step = &arrived.step;
-        let mut told = Vec::new();
+        let mut received = Received { is_made: is_new, ..Received::default() };
         let volume_size = step.volume.get("volsize").cloned();
         if let Some(snapshot) = self.tree.edit_snapshot(&arrived.destination) {
             snapshot.received.clone_from(&step.snapshot_properties);
@@ -266,20 +279,17 @@ impl Host {
             file_system.local.extend(step.volume.clone());
         }
         if let Some(properties) = &step.properties {
-            told.extend(self.receive_properties(manner, base, properties));
+            received.told.extend(self.receive_properties(manner, base, properties));
         }
         let affected = self.affected(base, &Property::Native(Native::MountPoint)).filter(|_| !is_new);
         self.override_properties(manner, arrived, base)?;
-        told.extend(affected.iter().flat_map(|it| self.settle_mounts(it)));
+        received.unmounted.extend(affected.iter().flat_map(|it| self.settle_mounts(it)));
         if !manner.skips_holds {
             for tag in &step.holds {
                 self.hold(&arrived.destination, tag, manner.clock).trying(|| Action::Hold(arrived.destination.clone()))?;
             }
         }
-        if is_new && !manner.is_unmounted {
-            told.extend(self.mount_new(base).err());
-        }
-        Ok(told)
+        Ok(received)
     }
 
     /// What was received takes the place of what was received before. Limits that don't fit are told, and left.
@@ -294,7 +304,8 @@ impl Host {
         let changes: Vec<(String, String)> = gone.chain(wanted.clone()).collect();
         for (name, value) in changes {
             let Some(native) = Native::named(&name).filter(|native| native.is_limit()) else { continue };
-            if local.contains_key(&name) {
+            // One that stays isn't set anew: the file system may be over it.
+            if local.contains_key(&name) || before.get(&name) == Some(&value) {
                 continue;
             }
             if let Err(reason) = self.set_limit(base, native, &value) {
@@ -469,7 +480,7 @@ mod tests {
         Arrived { destination: destination.into(), step: plan.steps[0].head.clone(), bytes, is_top: true, is_replication: false }
     }
 
-    fn receive(host: &mut Host, manner: &Manner, arrived: &Arrived) -> Result<Vec<String>, String> {
+    fn receive(host: &mut Host, manner: &Manner, arrived: &Arrived) -> Result<Received, String> {
         host.change(|host| host.receive_step(manner, arrived)).map_err(|failure| failure.to_string())
     }
 

@@ -3,9 +3,8 @@
 use super::walk;
 use crate::call::Call;
 use crate::dataset::{Dataset, Kind};
-use crate::failure::{Action, Failure, Outcome, Reason, Trying};
+use crate::failure::{Action, Failure, Outcome, Trying};
 use crate::host::Host;
-use crate::layer::Refusal;
 use crate::name;
 use crate::options::Options;
 use crate::output::Output;
@@ -232,17 +231,7 @@ fn destroy_all(host: &mut Host, doomed: &[Dataset], manner: Manner) -> Outcome {
             }
         }
     }
-    let option = if manner.is_deferred { "-d " } else { "" };
-    let mut refused = Vec::new();
-    for snapshot in doomed {
-        // One that a destroy before has taken with it is gone already.
-        match host.layer.order(&format!("destroy {option}{}", snapshot.path)) {
-            Ok(()) | Err(Refusal::NoDataset) => {}
-            Err(refusal) => refused.push(Failure::Cannot(Action::DestroySnapshot(snapshot.name.clone()), Reason::from(refusal))),
-        }
-    }
-    host.follow_layer();
-    if refused.is_empty() { Ok(()) } else { Err(Failure::Several(refused)) }
+    host.destroy_snapshots(doomed, manner.is_deferred)
 }
 
 #[cfg(test)]

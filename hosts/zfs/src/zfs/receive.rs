@@ -7,6 +7,7 @@ use crate::host::Host;
 use crate::name;
 use crate::options::Options;
 use crate::property::{Kinds, Property};
+use crate::protocol::Status;
 use crate::setting::{settings, Setting};
 use crate::size;
 use crate::stream::format::{read_body, read_head, read_magic, Begin, Broken, Head, Step};
@@ -109,26 +110,45 @@ fn receive(call: &mut Call, manner: &Manner) -> Outcome {
         _ => return Err(unreadable(&Broken::Damaged)),
     };
     check_values(&manner.settings).trying(|| Action::Receive)?;
+    // OpenZFS hands an origin to a lone stream alone.
+    let manner = &Manner { origin: manner.origin.clone().filter(|_| !begin.is_compound), ..manner.clone() };
     let Some(pool) = call.world.pool_of(&manner.target) else { return Err(no_pool(call, manner, &begin)) };
     if begin.is_replication && begin.is_incremental && !manner.is_dry {
         let (manner, begin) = (manner.clone(), begin.clone());
         call.change(&pool, move |host| host.follow_sender(&manner, &begin))?;
     }
-    let mut top = None;
-    let mut next = read_head(call).map_err(|broken| unreadable(&broken))?;
-    loop {
-        let (step, length) = match next {
-            (Head::End, 0) => break,
-            (Head::Step(step), length) => (step.onto(manner.origin.as_deref().filter(|_| !begin.is_replication)), length),
-            _ => return Err(unreadable(&Broken::Damaged)),
-        };
-        let goal = destination(manner, &begin, &step.to_name)?;
-        let top = top.get_or_insert_with(|| name::base(&goal).to_owned());
-        let is_top = top == name::base(&goal);
-        next = receive_step(call, &pool, manner, step, length, Goal { name: goal, is_top, is_replication: begin.is_replication })?;
+    let made = receive_steps(call, &pool, manner, &begin)?;
+    if !manner.is_unmounted && !made.is_empty() {
+        let told = pool.run(move |host| host.mount_made(&made))?;
+        tell_unmounted(call, &told);
     }
     call.log(&pool);
     Ok(())
+}
+
+/// Receives one step after another. The file systems that were made.
+fn receive_steps(call: &mut Call, pool: &Arc<PoolThread>, manner: &Manner, begin: &Begin) -> Outcome<Vec<String>> {
+    let (mut top, mut made) = (None, Vec::new());
+    let mut next = read_head(call).map_err(|broken| unreadable(&broken))?;
+    loop {
+        let (step, length) = match next {
+            (Head::End, 0) => return Ok(made),
+            (Head::Step(step), length) => (step.onto(manner.origin.as_deref()), length),
+            _ => return Err(unreadable(&Broken::Damaged)),
+        };
+        let goal = destination(manner, begin, &step.to_name)?;
+        let top = top.get_or_insert_with(|| name::base(&goal).to_owned());
+        let is_top = top == name::base(&goal);
+        next = receive_step(call, pool, manner, step, length, Goal { name: goal, is_top, is_replication: begin.is_replication }, &mut made)?;
+    }
+}
+
+/// Tells what can't be mounted, and that the command ends with status 1 for it.
+fn tell_unmounted(call: &mut Call, told: &[String]) {
+    told.iter().for_each(|line| call.output.error(line));
+    if !told.is_empty() {
+        call.status = Status::Failed;
+    }
 }
 
 /// Where a step goes.
@@ -138,8 +158,17 @@ struct Goal {
     is_replication: bool,
 }
 
-/// Receives a step, once the head behind it has come: a stream that is cut before its end leaves nothing of its last step. That head.
-fn receive_step(call: &mut Call, pool: &Arc<PoolThread>, manner: &Manner, step: Step, length: u64, goal: Goal) -> Outcome<(Head, u64)> {
+/// Receives a step, once the head behind it has come: a stream that is cut before its end leaves nothing of its last step. That head; and what was
+/// made is added to the names.
+fn receive_step(
+    call: &mut Call,
+    pool: &Arc<PoolThread>,
+    manner: &Manner,
+    step: Step,
+    length: u64,
+    goal: Goal,
+    made: &mut Vec<String>,
+) -> Outcome<(Head, u64)> {
     let begin = Instant::now();
     let has_already = announce(call, pool, manner, &step, &goal)?;
     let bytes = match read_body(call, &step, length) {
@@ -157,7 +186,7 @@ fn receive_step(call: &mut Call, pool: &Arc<PoolThread>, manner: &Manner, step: 
     }
     let count = if has_already { 0 } else { bytes.len() as u64 };
     if !has_already {
-        take(call, pool, manner, step, bytes, goal)?;
+        made.extend(take(call, pool, manner, step, bytes, goal)?);
     }
     if manner.is_verbose {
         let seconds = begin.elapsed().as_secs().max(1);
@@ -167,16 +196,17 @@ fn receive_step(call: &mut Call, pool: &Arc<PoolThread>, manner: &Manner, step: 
     Ok(next)
 }
 
-/// Receives a step that has come whole.
-fn take(call: &mut Call, pool: &Arc<PoolThread>, manner: &Manner, step: Step, bytes: Vec<u8>, goal: Goal) -> Outcome {
-    let manner_here = manner.clone();
-    let told = call.change(pool, move |host| {
+/// Receives a step that has come whole. The name of the file system that it made, if it did.
+fn take(call: &mut Call, pool: &Arc<PoolThread>, manner: &Manner, step: Step, bytes: Vec<u8>, goal: Goal) -> Outcome<Option<String>> {
+    let (manner_here, base) = (manner.clone(), name::base(&goal.name).to_owned());
+    let received = call.change(pool, move |host| {
         let Goal { name: destination, is_top, is_replication } = goal;
         let arrived = Arrived { destination, step, bytes: Rc::new(bytes), is_top, is_replication };
         host.receive_step(&manner_here, &arrived)
     })?;
-    told.iter().for_each(|line| call.output.error(line));
-    Ok(())
+    received.told.iter().for_each(|line| call.output.error(line));
+    tell_unmounted(call, &received.unmounted);
+    Ok(received.is_made.then_some(base))
 }
 
 /// Looks whether a step may be received, and tells of it with `-v`. Whether its snapshot is there already, which is passed over.
@@ -236,7 +266,7 @@ fn cut(call: &Call, pool: &Arc<PoolThread>, manner: &Manner, goal: &str, step: &
 fn no_pool(call: &mut Call, manner: &Manner, begin: &Begin) -> Failure {
     let action = match read_head(call) {
         Ok((Head::Step(step), _)) => {
-            let step = step.onto(manner.origin.as_deref().filter(|_| !begin.is_replication));
+            let step = step.onto(manner.origin.as_deref());
             match destination(manner, begin, &step.to_name) {
                 Ok(goal) if step.is_clone && manner.origin.is_none() => {
                     return Failure::Cannot(Action::Receive, Reason::Text(format!("local origin for clone {goal} does not exist")));

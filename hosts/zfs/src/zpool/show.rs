@@ -9,7 +9,7 @@ use crate::failure::{Action, Failure, Outcome, Reason, Trying};
 use crate::host::Host;
 use crate::name;
 use crate::options::Options;
-use crate::output::{Column, Table};
+use crate::output::{self, Column, Table};
 use crate::property::listed;
 use crate::setting::{settings, Setting};
 use crate::size;
@@ -234,23 +234,26 @@ fn tell_status(call: &mut Call, operands: &[String], is_brief: bool) -> Outcome 
         return Ok(());
     }
     for (place, pool) in pools.iter().enumerate() {
-        let facts = pool.run(|host| host.facts.clone())?;
+        let (vdevs, scrubbed) = pool.run(|host| (host.facts.vdevs.clone(), host.scrubbed))?;
         if place > 0 {
             call.output.line("");
         }
-        call.output.text(&status_text(&pool.name, &facts.vdevs));
+        call.output.text(&status_text(&pool.name, &vdevs, scrubbed));
     }
     Ok(())
 }
 
-fn status_text(name: &str, vdevs: &[Vdev]) -> String {
+/// A pool that was never scrubbed has no line `scan:`, as in OpenZFS 2.1.
+fn status_text(name: &str, vdevs: &[Vdev], scrubbed: Option<i64>) -> String {
     let counted = |line: &str, state: &str, width: usize| match state {
         "AVAIL" => format!("\t{line:<width$}  {state:<8}\n"),
         _ => format!("\t{line:<width$}  {state:<8} {:>5} {:>5} {:>5}\n", 0, 0, 0),
     };
     let layout = vdev::layout(name, vdevs, counted);
     let width = layout.lines().next().and_then(|line| line.find("  ONLINE")).map_or(10, |place| place - 1);
-    format!("  pool: {name}\n state: ONLINE\nconfig:\n\n\t{:<width$}  STATE     READ WRITE CKSUM\n{layout}\nerrors: No known data errors\n", "NAME")
+    let scan = scrubbed.map(|time| format!("  scan: scrub repaired 0B in 00:00:00 with 0 errors on {}\n", output::exact_date(time)));
+    let head = format!("  pool: {name}\n state: ONLINE\n{}config:\n\n", scan.unwrap_or_default());
+    format!("{head}\t{:<width$}  STATE     READ WRITE CKSUM\n{layout}\nerrors: No known data errors\n", "NAME")
 }
 
 pub fn history(call: &mut Call, words: &[String]) -> Outcome {

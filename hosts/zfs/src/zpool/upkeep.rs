@@ -85,7 +85,10 @@ pub fn run(call: &mut Call, command: ZpoolCommand, words: &[String]) -> Outcome 
         (Answer::Done, [_, device, ..]) if command == ZpoolCommand::Clear => {
             Err(Failure::Told(format!("cannot clear errors for {device}: no such device in pool")))
         }
-        (Answer::Done, [pool, ..]) if command == ZpoolCommand::Scrub => check_scrub(pool, &options),
+        (Answer::Done, [pool, ..]) if command == ZpoolCommand::Scrub => {
+            check_scrub(pool, &options)?;
+            scrub(call, &options.operands)
+        }
         _ => Ok(()),
     }
 }
@@ -109,6 +112,12 @@ fn check_scrub(pool: &str, options: &Options) -> Outcome {
         _ => return Ok(()),
     };
     Err(Failure::Told(format!("cannot {deed} scrubbing {pool}: there is no active scrub")))
+}
+
+/// Keeps for `zpool status` when the pools were scrubbed.
+fn scrub(call: &Call, pools: &[String]) -> Outcome {
+    let clock = call.clock();
+    pools.iter().try_for_each(|pool| call.pool(pool)?.run(move |host| host.scrubbed = Some(clock)))
 }
 
 /// A device without a label is as it should be; one that isn't there is none.

@@ -23,8 +23,8 @@ loop-found-init c = record {
   never_lower = omega arith;
 }
 
-pub loop-found-preserved-in-Continue : goal.loop-found-preserved-in-Continue
-loop-found-preserved-in-Continue c =
+pub loop-found-preserved-then-not-has_snapshot_in : goal.loop-found-preserved-then-not-has_snapshot_in
+loop-found-preserved-then-not-has_snapshot_in c =
     let t = c.args.table.now in
     let needed : Snap → Bool = λ u. c.args.defer && is_needed (world_of t) c.args.views.now.opened u in
     let ids : List SnapId = map (λ (q : Name × Snap). id_of q.1) (take c.loop-found.found-index c.args.all.now) in
@@ -33,7 +33,7 @@ loop-found-preserved-in-Continue c =
     let id = c.id-id.ensures ∙ ap (λ (q : Name × Snap). id_of q.1) c.found.view_is in
     let at = system_at t p.0 p.1 (c.requires.there p (in_place c.args.all.now c.loop-found.found-index p c.loop-found-test.true c.found-item.is)) in
     let more = more_ids c.args.all.now c.loop-found.found-index p c.loop-found-test.true c.found-item.is in
-    let out = (λ i. is_some (snap_in_system (sym c.loop-found.invariant.so_far i) (sym name i) (sym id i))) ∙ sym c.has_snapshot_in.ensures ∙ c.if-has_snapshot_in.false in
+    let out = (λ i. is_some (snap_in_system (sym c.loop-found.invariant.so_far i) (sym name i) (sym id i))) ∙ sym c.has_snapshot_in.ensures ∙ c.if-not-has_snapshot_in.true in
     record {
       so_far = c.loop-found.invariant.so_far ∙ gone_already t c.facts.ensures.good needed ids p.0 at.0 p.1 at.1 at.2 out ∙ ap (removed_or_deferred t needed) (sym more);
       lost = c.loop-found.invariant.lost;
