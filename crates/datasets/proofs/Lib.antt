@@ -1,4 +1,5 @@
 pub mod Parents
+pub mod MovedNames
 pub mod Kept
 pub mod Written
 pub mod Above

@@ -6,6 +6,7 @@ mod file_systems;
 mod parent;
 mod place;
 mod promote;
+mod rename;
 mod row;
 mod table;
 
