@@ -1,5 +1,6 @@
 pub mod Parents
 pub mod MovedNames
+pub mod Families
 pub mod Kept
 pub mod Written
 pub mod Above
