@@ -389,6 +389,18 @@ class State:  # never changed in place: a request makes a new state
         new = self.with_system(owner, systems[owner].without(lambda t: t.name in moved), origin=origin.id)
         return "ok", new.with_system(name, snaps={**moved, **systems[name].snaps}, origin=systems[owner].origin).within_limits()
 
+    def rename(self, target, to):
+        """Gives a file system, and with it all below it, another name. Snapshots and bookmarks go with it. No line asks it."""
+        w, name = self.now, target.system
+        refuse("NoDataset", name not in w.systems)
+        refuse("IsRoot", name == "p")
+        refuse("Exists", to.system in w.systems)
+        refuse("NoParent", parent_of(to.system) not in w.systems)
+        names = {it: to.system + it[len(name) :] for it in w.family(name)}
+        new = self.with_now(systems={names.get(it, it): f for it, f in w.systems.items()})
+        refuse("BadName", to.system.startswith(f"{name}/") or any(len(it) > LONGEST for it in new.list()[0].split(" ")))
+        return "ok", new.within_limits()
+
     def destroy(self, recursive, defer, target):
         """Destroys a file system, a snapshot or a bookmark. What no dataset has any more is to be freed."""
         if target.mark == "@":

@@ -13,10 +13,10 @@ With a built program it asks more rows than a file has:
 
 - each beginning of a stream, each stream that differs in one byte, and one that goes on, is refused as BadStream and changes nothing;
 - after each line of random scripts both worlds are walked in the image as the plain machine has them;
-- each request for memory of a script with each kind of request, and of one with destroys of several snapshots, is refused in turn, at once and in
-  two steps. The line that is told NoMemory has changed nothing: all lines after it, and all that can be asked of the pool, are answered as if it
-  were left out. Asked again it is answered as ever, and in the end the pool has the same blocks at the same numbers as one that was never refused
-  memory. With --gate one request of thirty is refused, chosen by the digest of HEAD's tree.
+- each request for memory of a script with each kind of request, of one with destroys of several snapshots, and of one with renames, is refused in
+  turn, at once and in two steps. The line that is told NoMemory has changed nothing: all lines after it, and all that can be asked of the pool, are
+  answered as if it were left out. Asked again it is answered as ever, and in the end the pool has the same blocks at the same numbers as one that
+  was never refused memory. With --gate one request of thirty is refused, chosen by the digest of HEAD's tree.
 
 Anything else is printed, and the exit status is 1.
 """
@@ -31,11 +31,12 @@ from collections import Counter
 from concurrent.futures import ThreadPoolExecutor
 from functools import lru_cache, partial
 from pathlib import Path
+from types import SimpleNamespace
 
 import plain
 import refused
 from judge import Judge
-from row_words import MASK, destroyed, error, mixed, received
+from row_words import MASK, destroyed, error, mixed, received, renamed
 from wrong_bodies import order_of_tree
 
 ROOT = Path(__file__).resolve().parent.parent
@@ -94,6 +95,37 @@ def told_of(reply):
     return reply if reply == "ok" else error(reply)
 
 
+def destroyed_by(state, words):
+    """What becomes of a destroy of several snapshots, `[-r] [-d] SNAP ..`."""
+    names, flags = words.split(" ") if words else [], []
+    for option in ("-r", "-d"):
+        flags.append(names[:1] == [option])
+        names = names[1:] if flags[-1] else names
+    return destroyed(state, *flags, names)
+
+
+def renamed_by(state, words):
+    """What becomes of a rename, `NAME TO`."""
+    name, _, to = words.partition(" ")
+    return renamed(state, name, to)
+
+
+# Requests that no line of a script asks, by the word that such a line of a row begins with.
+OTHERS = {"destroys": destroyed_by, "rename": renamed_by}
+
+
+def lawful(state, line):
+    """The lawful replies to a line, which may be one of OTHERS, each with the state after it."""
+    word, _, words = line.decode().partition(" ")
+    if word not in OTHERS:
+        return plain.lawful(state, line)
+    reply, new = OTHERS[word](state, words)
+    return [(told_of(reply), new)]
+
+
+MACHINE = SimpleNamespace(fresh=plain.fresh, lawful=lawful)
+
+
 class Plain:
     """Two pools of the plain machine."""
 
@@ -113,7 +145,7 @@ class Plain:
             return "error 1 BadName"
         if not 1 <= blocks <= 4194304:
             return "error 21 TooMany"
-        self.pools[place], self.asked[place] = Judge(plain, blocks, number), []
+        self.pools[place], self.asked[place] = Judge(MACHINE, blocks, number), []
         return "ok"
 
     def row(self, row, given=None):
@@ -128,36 +160,18 @@ class Plain:
             return "yes" if plain.request_of(one.encode()) == plain.request_of(other.encode()) else "no"
         if word == "alike":
             return "yes" if self.asked[0] == self.asked[1] else sys.exit("pool_rows: the pools were asked other lines")
+        if word in OTHERS:
+            return self.do_apply(place, row, given)
         return getattr(self, f"do_{word}")(place, rest, given)
 
     def do_apply(self, place, line, given):
-        word, _, words = line.partition(" ")
-        if word == "destroys":
-            return self.do_destroys(place, words, given)
         self.asked[place].append(line)
         return self.reply(place, line, given)
 
     do_two = do_apply
 
     def do_left(self, place, line, _given):
-        word, _, words = line.partition(" ")
-        if word == "destroys":
-            return told_of(self.destroyed(place, words)[0])
         return next(iter(self.pools[place].lawful(line.encode())))
-
-    def destroyed(self, place, words):
-        """What is told of a destroy of `[-r] [-d] SNAP ..`, and the state after it."""
-        names, flags = words.split(" ") if words else [], []
-        for option in ("-r", "-d"):
-            flags.append(names[:1] == [option])
-            names = names[1:] if flags[-1] else names
-        return destroyed(self.pools[place].states[0], *flags, names)
-
-    def do_destroys(self, place, words, _given):
-        self.asked[place].append(f"destroys {words}")
-        reply, state = self.destroyed(place, words)
-        self.pools[place].states = [state]
-        return told_of(reply)
 
     def do_take(self, place, words, _given):
         self.asked[place].append(words)
@@ -219,7 +233,8 @@ LINES = """write p 0 0 61,write p 0 0 62,write p 0 1 63,write p 1 4095 64,write 
 write p/b 1 4095 69,write p/c 0 1 70,punch p 0 0,punch p 0 1,punch p/a 0 0,punch p/a 1 0,punch p/b 0 0,punch p/c 0 1,rmobj p 0,rmobj p/a 0,
 rmobj p/b 1,create p/a,create p/a/d,snapshot p@1,snapshot p@2,snapshot p/a@1,snapshot -r p@3,snapshot p/b@1,clone p@1 p/b,clone p/a@1 p/b,
 clone p@3 p/c,promote p/b,promote p/c,rollback p@1,rollback -r p@1,rollback -r p/a@1,destroy p@1,destroy -d p@2,destroy -r p@3,destroy -r p/a,
-destroy p/b,destroy p/c,hold t p@2,release t p@2,slice 5,slice 100,sync,sync,abandon,write p 0 0 71""".replace("\n", "").split(",")
+destroy p/b,destroy p/c,hold t p@2,release t p@2,slice 5,slice 100,sync,sync,abandon,write p 0 0 71,rename p/b p/a,rename p/b p/a/e,rename p/a p/b,
+rename p/a p/c,rename p/c p/a-x,rename p/a-x p/a,rename p/b/d p/a/d""".replace("\n", "").split(",")
 
 
 def scripted(seed, count):
@@ -288,9 +303,18 @@ write p/b 0 0 66; snapshot -r p@6; write p/a 0 0 67; hold x p/a/d@6; sync; destr
 abandon; destroys -r -d p@6 p@5; release x p/a/d@6; list; slice 100; sync; write p/a 0 2 68"""
 
 
-def each_list():
-    """The lines of LISTS; each is done."""
-    lines, beside = LISTS.replace("\n", " ").split("; "), Plain()
+# Renames, and what comes before and after them. Each is done.
+RENAMES = """create p/a; create p/a/x; create p/a-x; create p/b; write p/a 0 0 61; write p/a/x 0 0 61; snapshot -r p/a@1; bookmark p/a/x@1 p/a/x#m;
+write p/a/x 0 1 62; rename p/a p/c; clone p/c@1 p/a; clone p/c/x@1 p/c/x/in; hold t p/c/x@1; view p/c@1; set quota=51200 p/c; set quota=51200 p/b;
+set reservation=10240 p/c/x; sync; rename p/c/x p/b/x; write p/b/x 0 1 63; get used p/b; get available p/c; rename p/a p/b/a; rename p/b p/a;
+get origin p/a/x/in; get clones p/c@1; unview 1; abandon; rename p/c p/b/c; promote p/b/c/x/in; rename p/b p/e; rename p/a-x p/a/d; list;
+slice 100; sync; rename p/e/c p/c; snapshot p/c@2; rollback p/c@2; destroy -d p/c@1; destroy p/a/d; rename p/a p/d; destroy p/d; release t p/c/x/in@1;
+destroy -r p/c; rename p/e p/a; list; slice 100; sync; write p/a 0 2 64"""
+
+
+def each_of(text):
+    """The lines of LISTS or of RENAMES; each is done."""
+    lines, beside = text.replace("\n", " ").split("; "), Plain()
     beside.row("0 make 1 300")
     for line in lines:
         reply = beside.row(f"0 apply {line}")
@@ -410,7 +434,7 @@ def try_memory(machine, workers, share):
     is_wrong, receives = False, [it.encode() for it in each_mode()]
     is_wrong |= tried("receives in each mode", LeftOut(Asked(machine, b"apply"), receives), workers, share)
     is_wrong |= tried("receives in each mode, and again", AskedAgain(machine, beside(b"two", receives)), workers, share)
-    for what, lines in (("each kind of request", each_kind()), ("destroys of several snapshots", each_list())):
+    for what, lines in (("each kind of request", each_kind()), ("destroys of several snapshots", each_of(LISTS)), ("renames", each_of(RENAMES))):
         lines = [it.encode() for it in lines]
         for way in (b"apply", b"two"):
             name = f"{what}, {'at once' if way == b'apply' else 'in two'}"

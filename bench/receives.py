@@ -1,13 +1,13 @@
 #!/usr/bin/env python3
-"""Asks pools of the library and the plain machine (bench/plain.py) the same random requests, receives in each mode and destroys of several
-snapshots among them, and compares.
+"""Asks pools of the library and the plain machine (bench/plain.py) the same random requests, receives in each mode, destroys of several snapshots
+and renames among them, and compares.
 
     python3 bench/receives.py [--first SEED] [--pools N] [--requests N]
 
 The pools are asked through the Python package over the shared library that `make` leaves in hosts/out (or the one that YUZGONT_LIBRARY names).
 A script's lines have two modes of a receive, and this tries all five, of streams that the pools send each other. A line destroys one snapshot, and
-this destroys lists of them, some with names that no snapshot has or that stand twice. It prints how often each was done or refused, and fails where
-a reply, a name, a size or a block is another than the plain machine's. A seed says all that is asked.
+this destroys lists of them, some with names that no snapshot has or that stand twice. No line renames a file system. It prints how often each was
+done or refused, and fails where a reply, a name, a size or a block is another than the plain machine's. A seed says all that is asked.
 """
 
 import argparse
@@ -17,8 +17,8 @@ from collections import Counter
 from functools import partial
 from pathlib import Path
 
-from plain import fresh, lawful, target_of, told_by
-from row_words import destroyed, received
+from plain import fresh, lawful, parent_of, target_of, told_by
+from row_words import destroyed, received, renamed
 
 sys.path.insert(0, str(Path(__file__).resolve().parent.parent / "hosts" / "python"))
 from yuzgont import Pool, Receiving, Refusal  # noqa: E402
@@ -26,7 +26,9 @@ from yuzgont import Pool, Receiving, Refusal  # noqa: E402
 SYSTEMS, SNAPSHOTS, BLOCKS = "p p/a p/a/x p/b p/c".split(), "1234", (0, 1, 2, 16, 17, 300)
 PROPERTIES = "used available referenced written usedbysnapshots usedbydataset usedbychildren quota refquota reservation origin".split()
 POOL_PROPERTIES = "allocated free freeing waiting group".split()
-MODES, DESTROYS = "Plain Back Past Origin Replace".split(), "destroys of several snapshots"
+MODES, DESTROYS, RENAMES = "Plain Back Past Origin Replace".split(), "destroys of several snapshots", "renames"
+# What a file system may be renamed to: also what comes between two of SYSTEMS.
+NEW_NAMES = [*SYSTEMS, "p/a-x", "p/b/x"]
 
 
 class Wrong(Exception):
@@ -60,6 +62,11 @@ class Both:
         words = ["-r"] * recursive + ["-d"] * deferred + names
         return self.compare(f"destroy {' '.join(words)}", partial(self.pool.destroy_snapshots, names, recursive, deferred), wanted, state)
 
+    def rename(self, name, to):
+        """Renames a file system on both; what came of it."""
+        wanted, state = renamed(self.state, name, to)
+        return self.compare(f"rename {name} {to}", partial(self.pool.rename, name, to), wanted, state)
+
     def compare(self, what, ask, wanted, state):
         """Makes a call of the library, which is to be answered as wanted and to leave a state; what came of it."""
         try:
@@ -75,10 +82,10 @@ class Both:
 
     def look(self):
         """Compares all names, sizes and some blocks."""
-        names = ["list", *(f"pget {it}" for it in POOL_PROPERTIES)]
-        sizes = [f"get {it} {system}" for system in SYSTEMS for it in PROPERTIES]
-        snapshots = [f"get used {system}@{it}" for system in SYSTEMS for it in SNAPSHOTS]
-        blocks = [f"read {system} 0 {it}" for system in SYSTEMS for it in BLOCKS]
+        names, systems = ["list", *(f"pget {it}" for it in POOL_PROPERTIES)], sorted({*SYSTEMS, *self.state.now.systems})
+        sizes = [f"get {it} {system}" for system in systems for it in PROPERTIES]
+        snapshots = [f"get {prop} {system}@{it}" for system in systems for it in SNAPSHOTS for prop in ("used", "clones")]
+        blocks = [f"read {system} 0 {it}" for system in systems for it in BLOCKS]
         for line in names + sizes + snapshots + blocks:
             self.line(line)
             self.asked.pop()
@@ -161,6 +168,19 @@ def destroy(draw, pool, counts):
     counts[DESTROYS, " ".join(["-r"] * recursive + ["-d"] * deferred) or "no option", told] += 1
 
 
+def rename(draw, pool, counts):
+    """Renames a file system, mostly one that is there to a name that it may have. The parent that it comes to may have a quota set first, or the one
+    that it leaves a reservation."""
+    systems = pool.state.now.systems
+    there, free = [it for it in systems if it != "p"], [it for it in NEW_NAMES if it not in systems and parent_of(it) in systems]
+    name, to = (draw.choice(some if some and draw.random() < 0.8 else others) for some, others in ((there, SYSTEMS), (free, NEW_NAMES)))
+    limit, parent = draw.choice([("quota=3072", parent_of(to)), ("quota=6144", parent_of(to)), ("reservation=10240", parent_of(name))])
+    if parent not in ("", "p") and draw.random() < 0.5:
+        pool.line(f"set {limit} {parent}")
+    told = pool.rename(name, to)
+    counts[RENAMES, f"below {'the same' if parent_of(name) == parent_of(to) else 'another'} parent", told] += 1
+
+
 def try_pools(seed, requests, counts):
     """Two pools, and so many requests of the one or the other."""
     draw = random.Random(seed)
@@ -174,6 +194,8 @@ def try_pools(seed, requests, counts):
                 one.line(line_of(draw))
             elif which < 0.7:
                 destroy(draw, one, counts)
+            elif which < 0.76:
+                rename(draw, one, counts)
             else:
                 receive(draw, one, draw.choice(both), counts)
             if draw.random() < 0.1:
@@ -200,9 +222,9 @@ def main():
             print(found)
     for (what, kind, told), count in sorted(counts.items()):
         print(f"{what}, {kind}: {told} {count}")
-    missing = [it for it in (*MODES, DESTROYS) if not any(key[0] == it and key[2] == "ok" for key in counts)]
-    destroys = sum(count for key, count in counts.items() if key[0] == DESTROYS)
-    done = f"{sum(counts.values()) - destroys} receives and {destroys} {DESTROYS} in {2 * options.pools} pools"
+    missing = [it for it in (*MODES, DESTROYS, RENAMES) if not any(key[0] == it and key[2] == "ok" for key in counts)]
+    destroys, renames = (sum(count for key, count in counts.items() if key[0] == it) for it in (DESTROYS, RENAMES))
+    done = f"{sum(counts.values()) - destroys - renames} receives, {destroys} {DESTROYS} and {renames} {RENAMES} in {2 * options.pools} pools"
     print(f"{done}, {len(wrong)} of {options.pools} seeds wrong" + "".join(f", {it} never done" for it in missing))
     sys.exit(bool(wrong or missing))
 

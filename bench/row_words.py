@@ -37,6 +37,12 @@ def destroyed(state, recursive, defer, names):
     return ("BadName", state) if None in targets else answered(state, state.destroy_snapshots, recursive, defer, *targets)
 
 
+def renamed(state, name, to):
+    """The same of a rename of a file system."""
+    targets = [target_of(it, ("",)) for it in (name, to)]
+    return ("BadName", state) if None in targets else answered(state, state.rename, *targets)
+
+
 def yes(is_so):
     return "yes" if is_so else "no"
 

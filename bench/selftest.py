@@ -219,6 +219,14 @@ def destroy_of_several(copy):
     return *copy.run("env", f"YUZGONT_LIBRARY={ROOT / SHARED}", sys.executable, "bench/receives.py", "--pools", "50", "--requests", "150"), "the plain machine: NoDataset"
 
 
+def rename(copy):
+    """A plain machine that leaves limits behind in a rename."""
+    copy.edit("bench/plain.py", r"names\.get\(it, it\): f for", "names.get(it, it): replace(f, limits={} if it in names else f.limits) for")
+    rows = copy.python("bench/pool_rows.py")
+    random = copy.run("env", f"YUZGONT_LIBRARY={ROOT / SHARED}", sys.executable, "bench/receives.py", "--pools", "50", "--requests", "150")
+    return min(rows[0], random[0]), rows[1] + random[1], "pool_rows: stands ", "rename p/", "the plain machine: "
+
+
 def short(copy):
     copy.edit("bench/machine.py", r"^LEFT, OF_EACH_PROOF = \S+", "LEFT, OF_EACH_PROOF = 9_000_000_000,")
     return *copy.python("bench/machine.py"), "machine: short of "
@@ -259,6 +267,7 @@ BROKEN = {
     "a leak in a host": (leak, LIBRARY),
     "a receive in one of its modes": (receive_in_a_mode, SHARED),
     "a destroy of several snapshots": (destroy_of_several, SHARED),
+    "a rename of a file system": (rename, SHARED),
     "a disk that is too small": (short, None),
     "a part of the gate": (part, None),
     "a proof that is refused": (proof_once, None),

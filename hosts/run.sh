@@ -1,8 +1,8 @@
 #!/usr/bin/env bash
 # Builds the hosts in C, Rust and Python over the static library, and runs them: the session of the README, each call, so many writes, streams,
-# refused memory, mistakes, a backup over a connection, what `make install` installs, the tests of the Python package, and receives in each mode
-# and destroys of several snapshots beside the plain machine. The library is brought up to date first, which proves what has changed (hosts/library.py). Status 1 where anything
-# fails.
+# refused memory, mistakes, a backup over a connection, what `make install` installs, the tests of the Python package, and receives in each mode,
+# destroys of several snapshots and renames beside the plain machine. The library is brought up to date first, which proves what has changed
+# (hosts/library.py). Status 1 where anything fails.
 #
 #     hosts/run.sh [WRITES]                   how many writes are timed, 1,000,000 if left out
 #     YUZGONT_LIB=quick hosts/run.sh          over the libyuzgont_c.a of that folder, as bench/quick.sh makes it: nothing of it is proved
@@ -56,7 +56,7 @@ make --quiet -C hosts check
 echo "== python"
 (cd hosts/python && python3 -m unittest discover --quiet --start-directory tests)
 
-echo "== receives in each mode, and destroys of several snapshots"
+echo "== receives in each mode, destroys of several snapshots, and renames"
 python3 bench/receives.py --pools 50 --requests 150
 
 # The same writes as lines, to the program.

@@ -181,6 +181,7 @@ int32_t yuzgont_clone(yuz_pool *pool, const uint8_t *snapshot, size_t snapshot_l
 int32_t yuzgont_destroy(yuz_pool *pool, const uint8_t *name, size_t name_length, bool recursive, bool defer);
 int32_t yuzgont_destroy_snapshots(yuz_pool *pool, const uint8_t *names, size_t names_length, bool recursive, bool defer);
 int32_t yuzgont_promote(yuz_pool *pool, const uint8_t *name, size_t name_length);
+int32_t yuzgont_rename(yuz_pool *pool, const uint8_t *name, size_t name_length, const uint8_t *to, size_t to_length);
 int32_t yuzgont_rollback(yuz_pool *pool, const uint8_t *snapshot, size_t snapshot_length, bool later);
 int32_t yuzgont_bookmark(yuz_pool *pool, const uint8_t *snapshot, size_t snapshot_length, const uint8_t *mark, size_t mark_length);
 int32_t yuzgont_hold(yuz_pool *pool, const uint8_t *tag, size_t tag_length, const uint8_t *snapshot, size_t snapshot_length);
@@ -331,6 +332,13 @@ static inline int yuz_promote(yuz_pool *pool, const char *name, size_t name_leng
     return yuzgont_promote(pool, yuz_bytes(name), name_length);
 }
 
+/* Renames a file system, and with it all below it; their snapshots and bookmarks go with them. The file system above the new name must be there.
+ * YUZ_BAD_NAME for a new name below the old one, and where a whole name would have more than 255 bytes. */
+static inline int yuz_rename(yuz_pool *pool, const char *name, size_t name_length, const char *to, size_t to_length) {
+    if (pool == NULL || yuz_is_wrong(name, name_length) || yuz_is_wrong(to, to_length)) return YUZ_NULL;
+    return yuzgont_rename(pool, yuz_bytes(name), name_length, yuz_bytes(to), to_length);
+}
+
 /* Makes a file system as this snapshot of it is, which must be the newest one unless `later` is set. With `later` newer snapshots and bookmarks
  * are destroyed. */
 static inline int yuz_rollback(yuz_pool *pool, const char *snapshot, size_t snapshot_length, bool later) {
@@ -428,7 +436,8 @@ static inline int yuz_get_or_zero(yuz_pool *pool, const char *name, size_t name_
 }
 
 /* Tells what a name of the last list is now, in a record: what `yuz_get` tells of each part. `buffer` gets the name as `yuz_name` gives it.
- * YUZ_NO_DATASET where it was destroyed since the list was made. A list and its entries are read one by one, so no line holds 65,536 names. */
+ * YUZ_NO_DATASET where it was destroyed or renamed since the list was made. A list and its entries are read one by one, so no line holds 65,536
+ * names. */
 static inline int yuz_entry(yuz_pool *pool, size_t index, char buffer[YUZ_NAME_SIZE], size_t *size, yuz_entry_record *entry) {
     if (entry == NULL) return YUZ_NULL;
     int code = yuz_name(pool, index, buffer, YUZ_NAME_SIZE, size);
@@ -561,7 +570,7 @@ static inline const char *yuz_text(int code) {
         case YUZ_MODIFIED: return "Modified: the file system was written to since its newest snapshot";
         case YUZ_NO_MEMORY: return "NoMemory: memory was refused";
         case YUZ_NO_VIEW: return "NoView: no such view is open";
-        case YUZ_IS_ROOT: return "IsRoot: the root file system cannot be destroyed";
+        case YUZ_IS_ROOT: return "IsRoot: the root file system cannot be destroyed or renamed";
         case YUZ_BAD_LINE: return "BadLine: the line has no command's shape";
         case YUZ_SESSION_FULL: return "SessionFull: the session has run as many calls as it was opened for";
         case YUZ_TOO_MANY_SEATS: return "TooManySeats: the session has given 64 seats";

@@ -134,6 +134,87 @@ static void try_destroys(void) {
     yuz_free(&pool);
 }
 
+/* A rename takes all below the file system with it. */
+static void try_renames(void) {
+    yuz_pool pool = YUZ_NO_POOL;
+    uint64_t view = 0, guid = 0, renamed = 0;
+    prepare(&pool);
+    done("bookmark", yuz_bookmark(&pool, NAME("p/a@t"), NAME("p/a#m")));
+    done("create_file_system", yuz_create_file_system(&pool, NAME("p/a/x")));
+    write_block(&pool, "p/a/x", 0, 0, 99);
+    done("snapshot", yuz_snapshot(&pool, NAME("p/a/x@u"), false));
+    done("hold", yuz_hold(&pool, NAME("kept"), NAME("p/a@t")));
+    done("set", yuz_set(&pool, NAME("p/a"), YUZ_LIMIT_QUOTA, 102400));
+    done("open_view", yuz_open_view(&pool, NAME("p/a/x@u"), &view));
+    done("get", yuz_get(&pool, NAME("p/a@t"), YUZ_GUID, &guid));
+    done("rename", yuz_rename(&pool, NAME("p/a"), NAME("p/d")));
+    expect_line(&pool, "list", "p p/c p/d p/d@s p/d@t p/d#m p/d/x p/d/x@u");
+    expect_line(&pool, "get origin p/c", "p/d@s");
+    expect_line(&pool, "get clones p/d@s", "p/c");
+    expect_line(&pool, "get quota p/d", "102400");
+    expect_line(&pool, "holds p/d@t", "kept");
+    expect_line(&pool, "read p/d 0 0", "hole");
+    done("get", yuz_get(&pool, NAME("p/d@t"), YUZ_GUID, &renamed));
+    if (renamed != guid) wrong("another guid", 0);
+    told_so("destroy with a view", yuz_destroy(&pool, NAME("p/d/x@u"), false, false), YUZ_BUSY);
+    done("close_view", yuz_close_view(&pool, view));
+    told_so("the old name", yuz_punch(&pool, NAME("p/a"), 0, 0), YUZ_NO_DATASET);
+    done("rename under its clone", yuz_rename(&pool, NAME("p/d"), NAME("p/c/d")));
+    done("rename of the clone", yuz_rename(&pool, NAME("p/c"), NAME("p/a")));
+    expect_line(&pool, "list", "p p/a p/a/d p/a/d@s p/a/d@t p/a/d#m p/a/d/x p/a/d/x@u");
+    expect_line(&pool, "get origin p/a", "p/a/d@s");
+    done("abandon", yuz_abandon(&pool));
+    expect_line(&pool, "list", "p p/a p/a@s p/a@t p/c");
+    yuz_free(&pool);
+}
+
+/* What refuses a rename. */
+static void try_refused_renames(void) {
+    yuz_pool pool = YUZ_NO_POOL;
+    char name[YUZ_NAME_SIZE];
+    memset(name, 'l', sizeof name);
+    memcpy(name, "p/", 2);
+    prepare(&pool);
+    done("create_file_system", yuz_create_file_system(&pool, NAME("p/a/x")));
+    told_so("no such file system", yuz_rename(&pool, NAME("p/b"), NAME("p/c")), YUZ_NO_DATASET);
+    told_so("the root", yuz_rename(&pool, NAME("p"), NAME("p/c")), YUZ_IS_ROOT);
+    told_so("a name that is taken", yuz_rename(&pool, NAME("p/a"), NAME("p/c")), YUZ_EXISTS);
+    told_so("its own name", yuz_rename(&pool, NAME("p/a"), NAME("p/a")), YUZ_EXISTS);
+    told_so("its child's name", yuz_rename(&pool, NAME("p/a"), NAME("p/a/x")), YUZ_EXISTS);
+    told_so("no parent", yuz_rename(&pool, NAME("p/a"), NAME("p/b/a")), YUZ_NO_PARENT);
+    told_so("no parent below itself", yuz_rename(&pool, NAME("p/a"), NAME("p/a/b/a")), YUZ_NO_PARENT);
+    told_so("a name below itself", yuz_rename(&pool, NAME("p/a"), NAME("p/a/y")), YUZ_BAD_NAME);
+    told_so("a name below its child", yuz_rename(&pool, NAME("p/a"), NAME("p/a/x/y")), YUZ_BAD_NAME);
+    told_so("a snapshot", yuz_rename(&pool, NAME("p/a@s"), NAME("p/a@v")), YUZ_BAD_NAME);
+    told_so("a snapshot's name", yuz_rename(&pool, NAME("p/a"), NAME("p/b@s")), YUZ_BAD_NAME);
+    told_so("no new name", yuz_rename(&pool, NAME("p/a"), NULL, 0), YUZ_BAD_NAME);
+    told_so("a long name of a snapshot", yuz_rename(&pool, NAME("p/a"), name, 254), YUZ_BAD_NAME);
+    told_so("no text", yuz_rename(&pool, NULL, 1, NAME("p/b")), YUZ_NULL);
+    told_so("no new text", yuz_rename(&pool, NAME("p/a"), NULL, 1), YUZ_NULL);
+    told_so("no handle", yuz_rename(NULL, NAME("p/a"), NAME("p/b")), YUZ_NULL);
+    expect_line(&pool, "list", "p p/a p/a@s p/a@t p/a/x p/c");
+    done("the longest name", yuz_rename(&pool, NAME("p/a"), name, 253));
+    yuz_free(&pool);
+    told_so("no pool", yuz_rename(&pool, NAME("p/a"), NAME("p/b")), YUZ_POOL_MISSING);
+}
+
+/* A rename asks the limits above the new name. The first block of a file system takes six blocks. */
+static void try_renames_within_limits(void) {
+    yuz_pool pool = YUZ_NO_POOL;
+    prepare(&pool);
+    done("create_file_system", yuz_create_file_system(&pool, NAME("p/a/x")));
+    done("create_file_system", yuz_create_file_system(&pool, NAME("p/q")));
+    write_block(&pool, "p/a/x", 0, 0, 99);
+    done("set", yuz_set(&pool, NAME("p/q"), YUZ_LIMIT_QUOTA, 5 * YUZ_BLOCK_SIZE));
+    done("set", yuz_set(&pool, NAME("p/a"), YUZ_LIMIT_RESERVATION, 995 * YUZ_BLOCK_SIZE));
+    told_so("past a quota", yuz_rename(&pool, NAME("p/a/x"), NAME("p/q/x")), YUZ_QUOTA);
+    told_so("out of a reservation", yuz_rename(&pool, NAME("p/a/x"), NAME("p/x")), YUZ_NO_SPACE);
+    done("set", yuz_set(&pool, NAME("p/a"), YUZ_LIMIT_RESERVATION, 994 * YUZ_BLOCK_SIZE));
+    done("rename", yuz_rename(&pool, NAME("p/a/x"), NAME("p/x")));
+    expect_line(&pool, "get available p", "0");
+    yuz_free(&pool);
+}
+
 /* Limits, and numbers of datasets and of the pool. */
 static void try_numbers(void) {
     static const char *const words[] = {"pget size", "pget allocated", "pget free", "pget freeing", "pget waiting", "pget group"};
@@ -323,6 +404,7 @@ static int do_clone(yuz_pool *pool) { return yuz_clone(pool, NAME("p/a@t"), NAME
 static int do_destroy(yuz_pool *pool) { return yuz_destroy(pool, NAME("p/c"), true, false); }
 static int do_destroys(yuz_pool *pool) { return yuz_destroy_snapshots(pool, NAME("p/a@s p/a@t"), false, true); }
 static int do_promote(yuz_pool *pool) { return yuz_promote(pool, NAME("p/c")); }
+static int do_rename(yuz_pool *pool) { return yuz_rename(pool, NAME("p/a"), NAME("p/c/a")); }
 static int do_rollback(yuz_pool *pool) { return yuz_rollback(pool, NAME("p/a@t"), false); }
 static int do_bookmark(yuz_pool *pool) { return yuz_bookmark(pool, NAME("p/a@t"), NAME("p/a#m")); }
 static int do_hold(yuz_pool *pool) { return yuz_hold(pool, NAME("kept"), NAME("p/a@t")); }
@@ -420,9 +502,12 @@ int main(void) {
     static const struct {
         const char *what;
         int (*call)(yuz_pool *);
-    } each[] = {{"create", do_create}, {"clone", do_clone}, {"destroy", do_destroy}, {"destroy_snapshots", do_destroys}, {"promote", do_promote}, {"rollback", do_rollback}, {"bookmark", do_bookmark}, {"hold", do_hold}, {"release", do_release}, {"set", do_set}, {"free_object", do_free_object}, {"open_view", do_view}, {"close_view", do_close}, {"written_since", do_written}, {"would_free", do_would_free}, {"pool_get", do_pool_get}, {"list", do_list}, {"holds", do_holds}, {"a line that changes", do_line}};
+    } each[] = {{"create", do_create}, {"clone", do_clone}, {"destroy", do_destroy}, {"destroy_snapshots", do_destroys}, {"promote", do_promote}, {"rename", do_rename}, {"rollback", do_rollback}, {"bookmark", do_bookmark}, {"hold", do_hold}, {"release", do_release}, {"set", do_set}, {"free_object", do_free_object}, {"open_view", do_view}, {"close_view", do_close}, {"written_since", do_written}, {"would_free", do_would_free}, {"pool_get", do_pool_get}, {"list", do_list}, {"holds", do_holds}, {"a line that changes", do_line}};
     try_datasets();
     try_destroys();
+    try_renames();
+    try_refused_renames();
+    try_renames_within_limits();
     try_numbers();
     try_views();
     try_lists();

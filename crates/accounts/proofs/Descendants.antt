@@ -10,6 +10,7 @@ use Rattle.base.specs.Names.{slash, same_name, before_slash, parent_of, is_desce
 use Rattle.model.specs.Hierarchy.{FileSystems, IsHierarchy}
 use Rattle.world.specs.Trees.{total}
 use Rattle.world.proofs.lists.Finding.{name_itself, one_name}
+use Rattle.world.proofs.lists.Names.{and_false, no_descendant, descendant_by_parent}
 use Rattle.world.proofs.lists.Maps.{same_value, no_value}
 use Rattle.accounts.specs.Levels.{slashes}
 use Rattle.accounts.specs.Space.{is_in_family}
@@ -17,52 +18,7 @@ use Rattle.accounts.proofs.Totals.{total_same, total_plus, total_zero}
 use Rattle.accounts.proofs.Names.{is_child, level_up, keys_once, parent_in}
 use Rattle.accounts.proofs.Root.{total_one}
 
--- ---- names by their bytes
-
-either_way : (a b : ℕ) → (a == b) ≡ (b == a)
-either_way a b = both_ways (a == b) (b == a) (λ t. eq-eqb b a (sym (eqb-true a b t))) (λ t. eq-eqb a b (sym (eqb-true b a t)))
-
-and_false : (x : Bool) → (x && false) ≡ false
-and_false true = refl
-and_false false = refl
-
--- a name with no parent descends from none
-pub no_descendant : (name x : List ℕ) → parent_of x ≡ None → is_descendant name x ≡ false
-no_descendant [] [] e = refl
-no_descendant (a ∷ rest) [] e = refl
-no_descendant name (b ∷ bs) e = at (parent_of bs) refl (b == slash) refl e name (λ n. no_descendant n bs)
-  where
-    at : (p : Option (List ℕ)) → parent_of bs ≡ p → (t : Bool) → (b == slash) ≡ t → before_slash b (parent_of bs) ≡ None
-        → (n : List ℕ) → ((n : List ℕ) → parent_of bs ≡ None → is_descendant n bs ≡ false) → is_descendant n (b ∷ bs) ≡ false
-    at None h true t f n ih = absurd (no_value [] (sym f ∙ rw (h, t) refl))
-    at None h false t f [] ih = ap (λ x. x && true) (either_way slash b ∙ t)
-    at None h false t f (a ∷ rest) ih = ap (λ x. (a == b) && x) (ih rest h) ∙ and_false (a == b)
-    at (Some front) h t g f n ih = absurd (no_value (b ∷ front) (sym f ∙ ap (before_slash b) h))
-
--- a descendant's parent is the ancestor or one of its descendants
-pub descendant_by_parent : (name x parent : List ℕ) → parent_of x ≡ Some parent → is_descendant name x ≡ is_in_family name parent
-descendant_by_parent name [] parent e = absurd (no_value parent e)
-descendant_by_parent name (b ∷ bs) parent e = at (parent_of bs) refl (b == slash) refl e name (λ n. descendant_by_parent n bs)
-  where
-    shared : (s t x y : Bool) → s ≡ t → (s && (x || y)) ≡ ((t && x) || (s && y))
-    shared true true x y e = refl
-    shared true false x y e = absurd (true≢false e)
-    shared false true x y e = absurd (true≢false (sym e))
-    shared false false x y e = refl
-
-    at : (p : Option (List ℕ)) → parent_of bs ≡ p → (t : Bool) → (b == slash) ≡ t → before_slash b (parent_of bs) ≡ Some parent
-        → (n : List ℕ) → ((n front : List ℕ) → parent_of bs ≡ Some front → is_descendant n bs ≡ is_in_family n front) → is_descendant n (b ∷ bs) ≡ is_in_family n parent
-    at None h true t f n ih = subst (λ q. is_descendant n (b ∷ bs) ≡ is_in_family n q) (same_value [] parent (sym (rw (h, t) refl) ∙ f)) (first n)
-      where
-        first : (n : List ℕ) → is_descendant n (b ∷ bs) ≡ is_in_family n []
-        first [] = ap (λ x. x && true) (either_way slash b ∙ t)
-        first (a ∷ rest) = ap (λ x. (a == b) && x) (no_descendant rest bs h) ∙ and_false (a == b)
-    at None h false t f n ih = absurd (no_value parent (sym (rw (h, t) refl) ∙ f))
-    at (Some front) h t g f n ih = subst (λ q. is_descendant n (b ∷ bs) ≡ is_in_family n q) (same_value (b ∷ front) parent (sym (ap (before_slash b) h) ∙ f)) (more n)
-      where
-        more : (n : List ℕ) → is_descendant n (b ∷ bs) ≡ is_in_family n (b ∷ front)
-        more [] = refl
-        more (a ∷ rest) = ap (λ x. (a == b) && x) (ih rest front h) ∙ shared (a == b) (b == a) (same_name front rest) (is_descendant rest front) (either_way a b)
+-- ---- names
 
 -- no name descends from itself
 pub not_below_itself : (name : List ℕ) → is_descendant name name ≡ false

@@ -1,12 +1,12 @@
 -- What file systems have of their own, and the datasets whose deadlists give the space of snapshots and of ranges of them.
-use Rattle.std.specs.Prelude.{◌≡◌, ℕ, ◌+◌, ◌||◌, Bool, cond, List, [], ◌∷◌, Some, map}
+use Rattle.std.specs.Prelude.{◌≡◌, ℕ, ◌+◌, Bool, cond, List, [], ◌∷◌, Some, map}
 use Rattle.std.specs.List.{sum}
 use Rattle.std.specs.Option.{option_map_or}
 use Rattle.std.specs.FinMap.{entries}
 use Rattle.std.specs.FinSet as set
 use Rattle.base.specs.Map.{Map, BlockSet, blocks}
 use Rattle.base.specs.Surveys.{IsIn}
-use Rattle.base.specs.Names.{same_name, is_descendant}
+pub use Rattle.model.specs.Hierarchy.{is_in_family}
 use Rattle.model.specs.World.{World, FileSystem, Snap, SnapId, Dataset, Live, Snapped, id_of, map_of, previous_of, file_system_at}
 use Rattle.model.specs.Sums.{used_by_dataset, used_by_snapshots}
 use Rattle.world.specs.Dead.{dead_of, IsThere, next_in}
@@ -14,10 +14,6 @@ use Rattle.world.specs.Dead.{dead_of, IsThere, next_in}
 -- what a file system has that its origin hasn't (zfsprops(7): usedbydataset, usedbysnapshots)
 abbrev pub own_of : World → FileSystem → ℕ
 own_of w s = used_by_dataset w s + used_by_snapshots w s
-
--- the second is the first or one of its descendants (zfs(8))
-abbrev pub is_in_family : List ℕ → List ℕ → Bool
-is_in_family name n = same_name n name || is_descendant name n
 
 -- what those file systems have of their own whose names pass a test (zfsprops(7): used, usedbychildren)
 abbrev pub own_where : World → (List ℕ → Bool) → ℕ

@@ -5,7 +5,7 @@ ghost use Rattle.std.specs.Option.{option_map};
 ghost use Rattle.base.specs.Reading.{Reads, snap_of};
 ghost use Rattle.model.specs.declared.receiving.Receiving.{Receiving};
 ghost use Rattle.c_api.specs.Asking.{asked_write, asked_punch, asked_read, asked_snapshot, asked_get, asked_send_from, asked_receive, mode_at, property_at};
-ghost use Rattle.c_api.specs.Asking.{asked_create, asked_free_object, asked_rollback, asked_destroy, asked_destroy_snapshots, asked_clone, asked_promote, asked_open_view};
+ghost use Rattle.c_api.specs.Asking.{asked_create, asked_free_object, asked_rollback, asked_destroy, asked_destroy_snapshots, asked_clone, asked_promote, asked_rename, asked_open_view};
 ghost use Rattle.c_api.specs.Asking.{asked_hold, asked_release, asked_holds, asked_bookmark, asked_written_since, asked_would_free, asked_set};
 ghost use Rattle.c_api.specs.Asking.{pool_property_at, limit_at};
 
@@ -133,6 +133,15 @@ pub(crate) fn ask_promote(alloc: Global, name: &[u8]) -> Result<Request, Refusal
 {
     let name = DsName::read(alloc, name)?;
     Ok(Request::Promote { name })
+}
+
+// Renames a file system, and with it all below it.
+pub(crate) fn ask_rename(alloc: Global, name: &[u8], to: &[u8]) -> Result<Request, Refusal>
+    ensures { Reads result (asked_rename name.now to.now) }
+{
+    let name = DsName::read(alloc, name)?;
+    let to = DsName::read(alloc, to)?;
+    Ok(Request::Rename { name, to })
 }
 
 // Adds a hold with a tag to a snapshot.

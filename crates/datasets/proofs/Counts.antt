@@ -1,5 +1,5 @@
 -- How many snapshots rows have.
-use Rattle.std.proofs.Common.{◌≡◌, ℕ, zero, suc, ◌+◌, ◌<◌, ◌≤◌, List, [], ◌∷◌, ◌++◌, length, get_or, set, sym, ap, ◌∙◌, arith, length-append}
+use Rattle.std.proofs.Common.{◌≡◌, ℕ, zero, suc, ◌+◌, ◌<◌, ◌≤◌, List, [], ◌∷◌, length, get_or, set, sym, ap, ◌∙◌, arith, length-append}
 use Rattle.std.specs.List.{flat_map, insert}
 use Rattle.std.specs.Prelude.{IsTrue}
 use Rattle.std.specs.FinMap.{is_sorted, from_sorted}
@@ -16,14 +16,19 @@ snaps_in es = flat_map (λ e. e.1.snaps) es
 pub counted : (es : List Entry) → IsTrue (is_sorted name_cmp es) → snap_count (from_sorted {R = name_cmp} es) ≡ length (snaps_in es)
 counted es sorted = ap (λ xs. length (snaps_in xs)) (entries_are es sorted)
 
+-- a row more adds its own
+pub inserted_count : (es : List Entry) (i : ℕ) (r : Entry) → i ≤ length es → length (snaps_in (insert es i r)) ≡ length r.1.snaps + length (snaps_in es)
+inserted_count es zero r le = length-append r.1.snaps (snaps_in es)
+inserted_count [] (suc i) r le = absurd (omega arith)
+inserted_count (e ∷ es) (suc i) r le =
+    let more = length-append e.1.snaps (snaps_in (insert es i r)) in
+    let rest = inserted_count es i r (omega arith) in
+    let all = length-append e.1.snaps (snaps_in es) in
+    omega (arith, more, rest, all)
+
 -- a row without snapshots adds none
 pub insert_count : (es : List Entry) (i : ℕ) (r : Entry) → i ≤ length es → r.1.snaps ≡ [] → length (snaps_in (insert es i r)) ≡ length (snaps_in es)
-insert_count es zero r le bare = ap (λ l. length (l ++ snaps_in es)) bare
-insert_count [] (suc i) r le bare = absurd (omega arith)
-insert_count (e ∷ es) (suc i) r le bare =
-    length-append e.1.snaps (snaps_in (insert es i r))
-    ∙ ap (λ n. length e.1.snaps + n) (insert_count es i r (omega arith) bare)
-    ∙ sym (length-append e.1.snaps (snaps_in es))
+insert_count es i r le bare = let more = inserted_count es i r le in let none = ap length bare in omega (arith, more, none)
 
 -- another row at a place adds as many as it has more than the one there
 pub set_count : (es : List Entry) (i : ℕ) (r d : Entry) (more : ℕ) → i < length es → length r.1.snaps ≡ length (get_or es i d).1.snaps + more → length (snaps_in (set es i r)) ≡ length (snaps_in es) + more

@@ -1,4 +1,8 @@
 pub mod Parents
+pub mod MovedNames
+pub mod Moves
+pub mod Renamed
+pub mod Families
 pub mod Kept
 pub mod Written
 pub mod Above

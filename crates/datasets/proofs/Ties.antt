@@ -143,7 +143,7 @@ comes_in [] i r lt = absurd (omega arith)
 comes_in (y ∷ rows) zero r lt = inl refl
 comes_in (y ∷ rows) (suc i) r lt = inr (comes_in rows i r (omega arith))
 
-in_inserted : (rows : List Row) (i : ℕ) (r x : Row) → IsIn (insert rows i r) x → (x ≡ r) ⊎ IsIn rows x
+pub in_inserted : (rows : List Row) (i : ℕ) (r x : Row) → IsIn (insert rows i r) x → (x ≡ r) ⊎ IsIn rows x
 in_inserted rows zero r x h = h
 in_inserted [] (suc i) r x h = h
 in_inserted (y ∷ rows) (suc i) r x h = ⊎_elim (λ e. inr (inl e)) (λ k. ⊎_elim (λ e. inl e) (λ m. inr (inr m)) (in_inserted rows i r x k)) h
@@ -240,7 +240,7 @@ map_inserted f (y ∷ xs) (suc i) x = ap (λ l. f y ∷ l) (map_inserted f xs i 
 pub inserted_entries : (xs ys : List (Arc Row Global)) (i : ℕ) (r : Row) → map arc_value xs ≡ insert (map arc_value ys) i r → map entry_in xs ≡ insert (map entry_in ys) i (entry_of r)
 inserted_entries xs ys i r e = spelled xs ∙ ap (map entry_of) e ∙ map_inserted entry_of (map arc_value ys) i r ∙ ap (λ l. insert l i (entry_of r)) (sym (spelled ys))
 
-flat_same : (items : List (Arc Row Global)) → flat_map (λ (e : Entry). e.1.snaps) (map entry_in items) ≡ row_snaps (map arc_value items)
+pub flat_same : (items : List (Arc Row Global)) → flat_map (λ (e : Entry). e.1.snaps) (map entry_in items) ≡ row_snaps (map arc_value items)
 flat_same [] = refl
 flat_same (a ∷ items) = ap (λ l. (arc_value a).system.snaps ++ l) (flat_same items)
 

@@ -4,6 +4,7 @@ pub mod Snapshots
 pub mod Rollbacks
 pub mod Clones
 pub mod Limits
+pub mod Renames
 pub mod CloneNames
 pub mod Places
 pub mod Sorted

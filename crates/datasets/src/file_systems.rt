@@ -15,7 +15,9 @@ ghost use Rattle.model.specs.Ids.{snap_id};
 ghost use Rattle.datasets.specs.Bookmarked.{bookmarked_of};
 ghost use Rattle.datasets.specs.Limited.{limited_of};
 ghost use Rattle.datasets.specs.CloneNames.{name_of, clones_in};
-ghost use Rattle.datasets.specs.Clones.{all_snaps, origin_at, below_at, row_in, IsTied};
+ghost use Rattle.datasets.specs.Clones.{all_snaps, origin_at, below_at, row_in, AreOnce, IsTied};
+ghost use Rattle.datasets.specs.Renames.{CanMove};
+ghost use Rattle.model.specs.requests.Rename.{renamed_systems};
 ghost use Rattle.file_system.specs.Dead.{AllowsLive, IsAbove};
 ghost use Rattle.file_system.specs.Losses.{newest_map, IsLost};
 ghost use Rattle.file_system.specs.Origins.{origin_group};
@@ -33,6 +35,7 @@ ghost use Rattle.tree.specs.Updates.{changes_of};
 use crate::clones::{CloneIndex, CloneName};
 use crate::place::{gap, place_near};
 use crate::promote::promote_at;
+use crate::rename::moved_rows;
 use crate::row::{own, owner_place, put, shared};
 use base::limit::Blocks;
 use base::meter::{Meter, SegMeter};
@@ -228,6 +231,25 @@ impl FileSystems {
             segments,
         )?;
         self.near = place;
+        Ok(())
+    }
+
+    /// Renames the file system `from` with all below it, as `Table::rename` says (zfs-rename(8)).
+    pub(crate) fn rename(
+        &mut self,
+        alloc: Global,
+        from: &DsName,
+        to: &DsName,
+    ) -> Result<(), Refusal>
+        requires can { CanMove self.old from.now to.now }
+        requires once { AreOnce self.old }
+        ensures ok { OnOk result (self.new ≡ renamed_systems self.old from.now to.now) }
+        ensures err { OnErr result (self.new ≡ self.old) }
+        ensures only { IfErr result (λ e. e ≡ Refusal.NoMemory) }
+    {
+        let (rows, clones) = moved_rows(alloc, &self.rows, from, to)?;
+        self.rows = rows;
+        self.clones = clones;
         Ok(())
     }
 

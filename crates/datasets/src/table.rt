@@ -27,6 +27,7 @@ ghost use Rattle.file_system.specs.Rows.{Row, live_of, snaps_at, with_live, snap
 ghost use Rattle.datasets.specs.Clones.{with_clone_of, with_promoted};
 ghost use Rattle.datasets.specs.Holders.{snapshot_place, snap_in_system, IsPlace};
 ghost use Rattle.datasets.specs.Limits.{with_limit_of};
+ghost use Rattle.datasets.specs.Renames.{with_names, rename_refusal};
 ghost use Rattle.datasets.specs.Rollbacks.{Loses};
 ghost use Rattle.datasets.specs.Table.{AreNumbersOne, AreBookmarksClosed, AreSnapshotsClosed};
 ghost use Rattle.datasets.specs.Writes.{young_of, AllowsWrite, HasWritten};
@@ -269,6 +270,18 @@ impl Table {
         ensures never_lower { segments.old ≤ segments.new }
     {
         self.systems.promote(alloc, name, segments)
+    }
+
+    /// Renames the file system `from`, and with it all below it (zfs-rename(8)). `rename_refusal` must be None. No tree, snapshot or block is
+    /// visited. NoMemory where there is none for it, and then the table is as it was. It costs the number of file systems, and for each one that
+    /// changes its name the length of that and a move of what is listed after it.
+    pub fn rename(&mut self, alloc: Global, from: &DsName, to: &DsName) -> Result<(), Refusal>
+        requires can { rename_refusal self.old from.now to.now ≡ None }
+        ensures ok { OnOk result (self.new ≡ with_names self.old from.now to.now) }
+        ensures err { OnErr result (self.new ≡ self.old) }
+        ensures only { IfErr result (λ e. e ≡ Refusal.NoMemory) }
+    {
+        self.systems.rename(alloc, from, to)
     }
 
     /// Makes the next searches look first at the file system of this name, if there is one, so that the next search for it takes constant time
@@ -575,8 +588,9 @@ impl Table {
         self.systems.clones_of(id)
     }
 
-    // Whether the parent of a file system of this name is there.
-    fn has_parent(&self, name: &[u8]) -> bool
+    /// Whether the parent of a file system of this name is there (zfs(8)). It costs the length of the name, and the logarithm of the number of file
+    /// systems.
+    pub fn has_parent(&self, name: &[u8]) -> bool
         ensures { result ≡ has_parent self.now.file_systems name.now }
     {
         match parent_of(name) {

@@ -38,6 +38,10 @@ system_of live snaps origin limits bookmarks = record { live = live; snaps = sna
 abbrev pub new_row : List ℕ → Row
 new_row name = record { name = name; system = empty_file_system; below = finmap.empty }
 
+-- a row under another name (zfs-rename(8))
+abbrev pub with_name : Row → List ℕ → Row
+with_name r name = record r { name = name }
+
 -- a row whose file system is another (profile)
 abbrev pub with_system : Row → FileSystem → Row
 with_system r f = record r { system = f }

@@ -23,7 +23,7 @@ ghost use Rattle.world.specs.Worlds.{AreRising};
 ghost use Rattle.file_system.specs.Origins.{origin_group};
 ghost use Rattle.file_system.specs.Owned.{LendsLine};
 ghost use Rattle.file_system.specs.Promotions.{clone_row};
-ghost use Rattle.file_system.specs.Rows.{new_row, with_system, with_snap};
+ghost use Rattle.file_system.specs.Rows.{new_row, with_name, with_system, with_snap};
 ghost use Rattle.file_system.specs.Splices.{lost_from, without_group, AreAbove};
 ghost use Rattle.file_system.specs.Deferred.{deferred_at, edit_of, edited_at, tagged_at};
 ghost use Rattle.file_system.specs.Writes.{newest_group, young_after, IsWritten};
@@ -177,6 +177,13 @@ impl FileSystem {
         ensures { arc_value result.now ≡ self.now.name }
     {
         &self.name
+    }
+
+    /// Gives it another name (zfs-rename(8)). Constant time.
+    pub fn set_name(&mut self, name: Arc<DsName>)
+        ensures { self.new ≡ with_name self.old (arc_value name) }
+    {
+        self.name = name;
     }
 
     /// The tree of its live dataset. Constant time.

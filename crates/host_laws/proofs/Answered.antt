@@ -29,6 +29,7 @@ use Rattle.world.proofs.lists.Finding.{append_none}
 use Rattle.world.proofs.lists.Maps.{same_value}
 use Rattle.world.proofs.views.ViewedRequests.{row_false}
 use Rattle.laws.specs.Lineages.{IsBefore, IsOrdered, HasLineages, HasBirths}
+use Rattle.laws.specs.Runs.{given}
 use Rattle.laws.specs.Sends.{IsInLineage}
 use Rattle.laws.proofs.Lasting.{now_lasts}
 use Rattle.laws.proofs.Leading.{step_leads, leads_lineages}
@@ -206,10 +207,10 @@ same_member a b e = ap (λ x. member_of x) e
     member_of t = a
 
 pub bookmark_sends_are_answered : BookmarkSendsAreAnswered
-bookmark_sends_are_answered s v u w name mark target t qs rs reply lines numbers named step within run stands sent allowed = (k.snap, k.named, reply_is, carries)
+bookmark_sends_are_answered s v u w name mark target t qs rs reply lines numbers named step within never run stands sent allowed = (k.snap, k.named, reply_is, carries)
   where
     lines_after : HasLineages u.now
-    lines_after = now_lasts HasLineages leads_lineages v u qs rs (leads_lineages s.now v.now lines (step_leads (ToBookmark (OfSnapshot name) mark) Done s v step)) within run
+    lines_after = now_lasts HasLineages leads_lineages v u qs rs (leads_lineages (given (ToBookmark (OfSnapshot name) mark) Done) s.now v.now lines (step_leads (ToBookmark (OfSnapshot name) mark) Done s v step)) within run
 
     heard : (m : Member) × (OfSnapshot target ≡ OfSnapshot m) × IsTold u m (Some (OfBookmark mark)) reply
     heard = step_told u w lines_after.order (OfSnapshot target) (Some (OfBookmark mark)) reply sent allowed
@@ -246,4 +247,4 @@ bookmark_sends_are_answered s v u w name mark target t qs rs reply lines numbers
     carries : Carries t.group (contents t.map) k.snap
     carries =
         subst (λ (m : Map). apply_records (records_since m t.group) (contents t.map) ≡ contents m) (own_map u lines_after.order target.file_system f.0 k.snap f.1 f.2)
-        (bookmark_sends s v u name mark t qs rs (Snapped (id_of k.snap)) lines numbers named step within run stands line)
+        (bookmark_sends s v u name mark t qs rs (Snapped (id_of k.snap)) lines numbers named step within never run stands line)

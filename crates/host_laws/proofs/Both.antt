@@ -17,9 +17,9 @@ use Rattle.model.specs.requests.Abandon.{abandon_rule}
 use Rattle.world.specs.Dead.{IsThere}
 use Rattle.laws.specs.Bookmarks.{IsRunWithin}
 use Rattle.laws.specs.Lineages.{HasLineages}
-use Rattle.laws.specs.Runs.{InBoth}
+use Rattle.laws.specs.Runs.{InBoth, given}
 use Rattle.laws.proofs.Before.{world_before, either_world, LeavesLast, last_after}
-use Rattle.laws.proofs.Leading.{Leads, step_leads, sync_leads, HasSnapMap, leads_held}
+use Rattle.laws.proofs.Leading.{Leads, gives_none, step_leads, sync_leads, HasSnapMap, leads_held}
 use Rattle.laws.proofs.Lasting.{run_has, lineages_last}
 use Rattle.laws.proofs.Lineages.{there_closed}
 use Rattle.laws.proofs.Pools.{lineages_begin}
@@ -64,7 +64,7 @@ abandon_leaves s t step = by_end step.follows
 
 module _ (q : Request) (r : Reply) (s t : State) (lines : InBoth HasLineages s) (one : AreSnapshotsOne s) (step : Step s q r t) where
   -- the last synced world stays, and the present one goes on from a world that holds what it does of its snapshots
-  stays : (w : World) → Leads w t.now → ((id : SnapId) → IsThere s.last (Snapped id) → HasSnapMap id (map_of s.last (Snapped id)) w) → t.last ≡ s.last
+  stays : (w : World) → Leads (given q r) w t.now → ((id : SnapId) → IsThere s.last (Snapped id) → HasSnapMap id (map_of s.last (Snapped id)) w) → t.last ≡ s.last
       → AreSnapshotsOne t
   stays w leads holds same = record {
     maps = λ id here there. (after id (was id there)).map here ∙ ap (λ x. map_of x (Snapped id)) (sym same);
@@ -75,16 +75,16 @@ module _ (q : Request) (r : Reply) (s t : State) (lines : InBoth HasLineages s) 
       was id there = subst (λ x. IsThere x (Snapped id)) same there
 
       after : (id : SnapId) → IsThere s.last (Snapped id) → HasSnapMap id (map_of s.last (Snapped id)) t.now
-      after id there = leads_held id (map_of s.last (Snapped id)) w t.now (holds id there) leads
+      after id there = leads_held id (map_of s.last (Snapped id)) (given q r) w t.now (holds id there) leads
 
   -- it is the present one, with the next group open, and both go on from that
-  synced : Leads s.now t.now → t.last ≡ with_next_group s.now → AreSnapshotsOne t
+  synced : Leads (given q r) s.now t.now → t.last ≡ with_next_group s.now → AreSnapshotsOne t
   synced leads is = record {
     maps = λ id here there.
         let h = held_there s.now id lines.0 (was id there) in
-        (leads_held id (map_of s.now (Snapped id)) s.now t.now h leads).map here
-        ∙ sym ((leads_held id (map_of s.now (Snapped id)) s.now t.last h (subst (Leads s.now) (sym is) (sync_leads s.now))).map there);
-    closed = λ id there. (leads_held id (map_of s.now (Snapped id)) s.now t.now (held_there s.now id lines.0 (was id there)) leads).closed;
+        (leads_held id (map_of s.now (Snapped id)) (given q r) s.now t.now h leads).map here
+        ∙ sym ((leads_held id (map_of s.now (Snapped id)) gives_none s.now t.last h (subst (Leads gives_none s.now) (sym is) (sync_leads s.now))).map there);
+    closed = λ id there. (leads_held id (map_of s.now (Snapped id)) (given q r) s.now t.now (held_there s.now id lines.0 (was id there)) leads).closed;
   }
     where
       was : (id : SnapId) → IsThere t.last (Snapped id) → IsThere s.now (Snapped id)
@@ -93,17 +93,17 @@ module _ (q : Request) (r : Reply) (s t : State) (lines : InBoth HasLineages s) 
   pub one_after : AreSnapshotsOne t
   one_after = by_world (either_world s q r)
     where
-      leads : Leads (world_before s q r) t.now
+      leads : Leads (given q r) (world_before s q r) t.now
       leads = step_leads q r s t step
 
-      from_now : Leads s.now t.now → LeavesLast s q r t → AreSnapshotsOne t
+      from_now : Leads (given q r) s.now t.now → LeavesLast s q r t → AreSnapshotsOne t
       from_now l (inl k) = stays s.now l (held_now s lines one) k.0
       from_now l (inr k) = synced l k
 
       by_world : (world_before s q r ≡ s.now) ⊎ ((world_before s q r ≡ s.last) × (q ≡ ToAbandon) × (r ≡ Done)) → AreSnapshotsOne t
-      by_world (inl e) = from_now (subst (λ w. Leads w t.now) e leads) (last_after q r s t step)
+      by_world (inl e) = from_now (subst (λ w. Leads (given q r) w t.now) e leads) (last_after q r s t step)
       by_world (inr (e, is, reply)) =
-          stays s.last (subst (λ w. Leads w t.now) e leads) (λ id there. held_there s.last id lines.1 there)
+          stays s.last (subst (λ w. Leads (given q r) w t.now) e leads) (λ id there. held_there s.last id lines.1 there)
           (abandon_leaves s t (subst (λ x. Step s x Done t) is (subst (λ x. Step s q x t) reply step)))
 
 -- ---- runs
@@ -126,7 +126,7 @@ run_within s u (q ∷ qs) (r ∷ rs) (t, step, rest) = (tt, (t, step, run_within
 held_lasts : (s u : State) (qs : List Request) (rs : List Reply) (id : SnapId) (held : Map) → HasSnapMap id held s.now
     → (IsThere s.last (Snapped id) → HasSnapMap id held s.last) → NeverGoesBefore s id qs rs → Run s qs rs u → HasSnapMap id held u.now
 held_lasts s u qs rs id held now last never run =
-    (run_has (HasSnapMap id held) (λ w. Unit {0}) (λ w new h leads _. leads_held id held w new h leads) (λ w _. tt) s u qs rs now
+    (run_has (HasSnapMap id held) (λ w. Unit {0}) (λ gives. Unit {0}) tt (λ gives w new _ h leads _. leads_held id held gives w new h leads) (λ w _. tt) s u qs rs (λ i q r e f. tt) now
     (⊎_elim (λ there. inl (last there)) inr never) (run_within s u qs rs run)).0
 
 pub snapshots_stay : SnapshotsStay

@@ -22,7 +22,7 @@ use Rattle.model.specs.requests.Send.{Start, no_source, sending_from}
 use Rattle.world.specs.RunLaws.{HasSnap}
 use Rattle.laws.specs.Lineages.{IsBefore, HasLineages, HasBirths}
 use Rattle.laws.specs.Bookmarks.{IsMarkedBy}
-use Rattle.laws.specs.Runs.{GoesBackWithin}
+use Rattle.laws.specs.Runs.{GoesBackWithin, IsNeverGiven}
 
 -- the records of a snapshot since this group carry what is held to what the snapshot holds (zfs-send(8), -i)
 abbrev pub Carries : ℕ → Contents → Snap → Type 0
@@ -75,12 +75,12 @@ SendsAreAnswered =
     (s u : State) (target : Target) (from : Option Target) (reply : Reply) → HasLineages s.now → HasBirths s.now → IsNumbered s
     → Step s (ToSend target from) reply u → IsNoRefusal reply → IsAnswered s.now target from reply
 
--- A Send from a bookmark that isn't refused, once that was made of a snapshot, after each run at whose end the bookmark is there and in which no
--- Abandon goes back to before it: the stream is the sent snapshot's since the other's group, and its records carry what that one held to what
+-- A Send from a bookmark that isn't refused, once that was made of a snapshot, after each run at whose end the bookmark is there, in which no Abandon
+-- goes back to before it and no rename gives its file system's name to another: the stream is the sent snapshot's since the other's group, and its records carry what that one held to what
 -- the sent one has, whatever has become of it and whatever numbers the steps choose (zfs-bookmark(8); zfs-send(8), -i with a bookmark)
 abbrev pub BookmarkSendsAreAnswered : Type 0
 BookmarkSendsAreAnswered =
     (s v u w : State) (name mark target : Member) (t : Snap) (qs : List Request) (rs : List Reply) (reply : Reply) → HasLineages s.now → IsNumbered s
-    → snap_named s.now name ≡ Some t → Step s (ToBookmark (OfSnapshot name) mark) Done v → GoesBackWithin qs rs → Run v qs rs u → IsMarkedBy mark (bookmark_of_snap t) u
+    → snap_named s.now name ≡ Some t → Step s (ToBookmark (OfSnapshot name) mark) Done v → GoesBackWithin qs rs → IsNeverGiven mark.file_system qs rs → Run v qs rs u → IsMarkedBy mark (bookmark_of_snap t) u
     → Step u (ToSend (OfSnapshot target) (Some (OfBookmark mark))) reply w → IsNoRefusal reply
     → (x : Snap) × (snap_named u.now target ≡ Some x) × (reply ≡ StreamIs (spell (sending_from (record { guid = t.guid; group = t.group }) x.guid x.map))) × Carries t.group (contents t.map) x

@@ -9,13 +9,12 @@ use Rattle.std.specs.FinSet.{difference}
 use Rattle.base.specs.Names.{same_name}
 use Rattle.base.specs.declared.name.member.Member.{Member}
 use Rattle.base.specs.declared.name.target.Target.{Target}
-use Rattle.base.specs.declared.name.target.Target.TheVariants.{FileSystem as OfFileSystem, Snapshot as OfSnapshot, Bookmark as OfBookmark}
 use Rattle.model.specs.declared.destroy_target.DestroyTarget.{DestroyTarget}
 use Rattle.model.specs.declared.destroy_target.DestroyTarget.TheVariants.{FileSystem as SystemGoes, Snapshots as SnapshotsGo, Bookmark as MarkGoes}
 use Rattle.model.specs.Limits.{limited}
 use Rattle.model.specs.declared.limits.Limit.{Limit}
 use Rattle.model.specs.declared.request.Request.{Request}
-use Rattle.model.specs.declared.request.Request.TheVariants.{Create as ToCreate, Write as ToWrite, Punch as ToPunch, FreeObject as ToFreeObject, Snapshot as ToSnapshot, Read as ToRead, Get as ToGet, PoolGet as ToPoolGet, List as ToList, Rollback as ToRollback, Destroy as ToDestroy, Slice as ToSlice, Sync as ToSync, Abandon as ToAbandon, OpenView as ToOpenView, CloseView as ToCloseView, Clone as ToClone, Promote as ToPromote, Hold as ToHold, Release as ToRelease, Holds as ToHolds, Bookmark as ToBookmark, WrittenSince as ToWrittenSince, WouldFree as ToWouldFree, Set as ToSet, Send as ToSend, Receive as ToReceive}
+use Rattle.model.specs.declared.request.Request.TheVariants.{Create as ToCreate, Write as ToWrite, Punch as ToPunch, FreeObject as ToFreeObject, Snapshot as ToSnapshot, Read as ToRead, Get as ToGet, PoolGet as ToPoolGet, List as ToList, Rollback as ToRollback, Destroy as ToDestroy, Slice as ToSlice, Sync as ToSync, Abandon as ToAbandon, OpenView as ToOpenView, CloseView as ToCloseView, Clone as ToClone, Promote as ToPromote, Rename as ToRename, Hold as ToHold, Release as ToRelease, Holds as ToHolds, Bookmark as ToBookmark, WrittenSince as ToWrittenSince, WouldFree as ToWouldFree, Set as ToSet, Send as ToSend, Receive as ToReceive}
 use Rattle.model.specs.declared.reply.Reply.{Reply}
 use Rattle.model.specs.State.{State}
 use Rattle.model.specs.Rule.{Choice, Rule}
@@ -29,6 +28,7 @@ use Rattle.model.specs.requests.Snapshot.{snapshots_taken, snapshot_names, guid_
 use Rattle.model.specs.requests.Rollback.{placed, rolled_back, after_rollback}
 use Rattle.model.specs.requests.Clone.{with_clone}
 use Rattle.model.specs.requests.Promote.{Promotion, promotion_of, after_promotion}
+use Rattle.model.specs.requests.Rename.{with_renamed}
 use Rattle.model.specs.requests.Destroy.{file_systems_named, snaps_named, is_one_of, with_deferred, after_destroy}
 use Rattle.model.specs.requests.Release.{without_tag}
 use Rattle.model.specs.requests.Set.{after_set}
@@ -39,6 +39,7 @@ use Rattle.world.specs.Worlds.{FileSystems, AreMapsFrom}
 use Rattle.world.proofs.lineage.Put.{put_maps}
 use Rattle.world.proofs.removals.Families.{retained_maps}
 use Rattle.world.proofs.removals.WithoutSnaps.{without_from}
+use Rattle.world.proofs.changes.Renames.{renamed_of}
 use Rattle.world.proofs.steps.Groups.{same_maps}
 use Rattle.world.proofs.steps.SnapshotLists.{maps_through}
 use Rattle.images.specs.Stored.{AreFromState, MapsStay, changes_maps}
@@ -90,6 +91,9 @@ turned s name = by_promotion (promotion_of s.now name) refl
     by_promotion : (x : Option Promotion) → promotion_of s.now name ≡ x → MapsStay s (option_map_or (λ (p : Promotion). with_now s (after_promotion s.now name p)) x s)
     by_promotion None e = stays s
     by_promotion (Some p) e = moves s (after_promotion s.now name p) (turned_from s.now name p e)
+
+renamed : (s : State) (from to : Name) → MapsStay s (with_now s (with_renamed s.now from to))
+renamed s from to = moves s (with_renamed s.now from to) (λ n f m at i. let k = renamed_of s.now from to n f at in inr (k.0, f, k.1, i))
 
 -- what a destroy leaves
 left_from : (w : World) (needed : Snap → Bool) (target : DestroyTarget) (recursive : Bool) → AreMapsFrom w.file_systems (after_destroy w needed target recursive).file_systems
@@ -170,6 +174,7 @@ step_maps q r s new same step = followed r s new (rule_of q step.reading) (by_re
     by_request (ToOpenView target) e c = viewed s target
     by_request (ToClone target name) e c = cloned s target name
     by_request (ToPromote name) e c = turned s name
+    by_request (ToRename name to) e c = renamed s name to
     by_request (ToCloseView view) e c = record { now = inl (same_maps s.now.file_systems); last = inr (same_maps s.last.file_systems) }
     by_request (ToHold tag target) e c = tagged s target (λ t. t.tags ++ tag ∷ [])
     by_request (ToRelease tag target) e c = tagged s target (λ t. without_tag t.tags tag)

@@ -8,6 +8,7 @@ pub mod Edits
 pub mod Receiving
 pub mod Orders
 pub mod Turning
+pub mod Moving
 pub mod OrderedSteps
 pub mod Stepping
 pub mod Marking

@@ -20,7 +20,7 @@ use Rattle.model.specs.Limits.{limited}
 use Rattle.model.specs.declared.receiving.Receiving.{Receiving}
 use Rattle.model.specs.declared.receiving.Receiving.TheVariants.{Plain, Back, Past, Origin, Replace}
 use Rattle.model.specs.declared.request.Request.{Request}
-use Rattle.model.specs.declared.request.Request.TheVariants.{Create as ToCreate, Write as ToWrite, Punch as ToPunch, FreeObject as ToFreeObject, Snapshot as ToSnapshot, Read as ToRead, Get as ToGet, PoolGet as ToPoolGet, List as ToList, Rollback as ToRollback, Destroy as ToDestroy, Slice as ToSlice, Sync as ToSync, Abandon as ToAbandon, OpenView as ToOpenView, CloseView as ToCloseView, Clone as ToClone, Promote as ToPromote, Hold as ToHold, Release as ToRelease, Holds as ToHolds, Bookmark as ToBookmark, WrittenSince as ToWrittenSince, WouldFree as ToWouldFree, Set as ToSet, Send as ToSend, Receive as ToReceive}
+use Rattle.model.specs.declared.request.Request.TheVariants.{Create as ToCreate, Write as ToWrite, Punch as ToPunch, FreeObject as ToFreeObject, Snapshot as ToSnapshot, Read as ToRead, Get as ToGet, PoolGet as ToPoolGet, List as ToList, Rollback as ToRollback, Destroy as ToDestroy, Slice as ToSlice, Sync as ToSync, Abandon as ToAbandon, OpenView as ToOpenView, CloseView as ToCloseView, Clone as ToClone, Promote as ToPromote, Rename as ToRename, Hold as ToHold, Release as ToRelease, Holds as ToHolds, Bookmark as ToBookmark, WrittenSince as ToWrittenSince, WouldFree as ToWouldFree, Set as ToSet, Send as ToSend, Receive as ToReceive}
 use Rattle.model.specs.declared.reply.Reply.{Reply}
 use Rattle.model.specs.World.{World, FileSystem, Snap, SnapId, Bookmark, id_of, same_id, snap_at, snap_named, empty_file_system, map_of_snap}
 use Rattle.model.specs.State.{State}
@@ -29,27 +29,32 @@ use Rattle.model.specs.Edits.{with_file_system, with_file_systems, with_losses, 
 use Rattle.model.specs.Outcome.{is_needed, state_after_sweep}
 use Rattle.model.specs.Refusals.{refusal_of}
 use Rattle.model.specs.Step.{Step}
+use Rattle.model.specs.Hierarchy.{is_in_family}
 use Rattle.model.specs.requests.{rule_of}
 use Rattle.model.specs.requests.Bookmark.{bookmarked, bookmark_of_snap, bookmark_row, bookmark_rule, is_beside}
 use Rattle.model.specs.requests.Change.{state_after_change}
 use Rattle.model.specs.requests.Clone.{with_clone}
-use Rattle.model.specs.requests.Create.{with_new_file_system}
 use Rattle.model.specs.requests.Destroy.{file_systems_named, snaps_named, is_one_of, with_deferred, after_destroy}
 use Rattle.model.specs.requests.OpenView.{with_view}
 use Rattle.model.specs.requests.Promote.{Promotion, promotion_of, promoted, demoted, after_promotion}
 use Rattle.model.specs.requests.Receive.{newest_of, source_of, back_to_newest, vacated, before_full, before_incremental, before_receive, received, state_received}
 use Rattle.model.specs.requests.Release.{without_tag}
+use Rattle.model.specs.requests.Rename.{with_renamed, rename_rule}
 use Rattle.model.specs.requests.Rollback.{placed, back_at, after_rollback, rolled_back}
 use Rattle.model.specs.requests.Snapshot.{snap_of_live, with_snapshots, snapshots_taken, snapshot_names, guid_by}
 use Rattle.world.specs.RunLaws.{HasSnap}
 use Rattle.world.specs.Shapes.{Name, name_order}
 use Rattle.world.proofs.removals.Families.{from_retained}
 use Rattle.world.proofs.lists.Finding.{from_find, one_name}
+use Rattle.world.proofs.lists.Names.{exchanged}
 use Rattle.world.proofs.lists.Maps.{same_value, no_value, key_cases, get-insert_same, get-insert_other, get-remove_same, get-remove_other}
 use Rattle.world.proofs.changes.Promotions.{IsPromotion, promotion_is}
+use Rattle.world.proofs.changes.Renames.{CanRename, renamed_at, outside_kept}
 use Rattle.world.proofs.lineage.Put.{put_cases}
 use Rattle.world.proofs.removals.Sweep.{get-with_file_systems}
+use Rattle.world.proofs.views.ViewedRenames.{rename_can}
 use Rattle.world.proofs.views.ViewedRequests.{row_false}
+use Rattle.laws.specs.Runs.{given}
 use Rattle.laws.proofs.Before.{world_before, step_joins}
 use Rattle.laws.proofs.Edits.{marks_left}
 
@@ -61,9 +66,10 @@ HasMark w a at b = (f : FileSystem) × (get w.file_systems a ≡ Some f) × (get
 abbrev MarksKept : World → World → Type 0
 MarksKept w new = (a : Name) (at : List ℕ) (b : Bookmark) → HasMark new a at b → HasMark w a at b
 
--- each is an earlier one, or is made of a snapshot of its file system
-abbrev pub MarksFrom : World → World → Type 0
-MarksFrom w new = (a : Name) (at : List ℕ) (b : Bookmark) → HasMark new a at b → HasMark w a at b ⊎ ((t : Snap) × HasSnap w a t × (b ≡ bookmark_of_snap t))
+-- each is an earlier one, or is made of a snapshot of its file system, or that has been given its name
+abbrev pub MarksFrom : (Name → Bool) → World → World → Type 0
+MarksFrom gives w new =
+    (a : Name) (at : List ℕ) (b : Bookmark) → HasMark new a at b → HasMark w a at b ⊎ (((t : Snap) × HasSnap w a t × (b ≡ bookmark_of_snap t)) ⊎ (gives a ≡ true))
 
 -- ---- edits
 
@@ -209,7 +215,7 @@ named_there w m p e = by_system (get w.file_systems m.file_system) refl e
     by_system None i k = absurd (no_value p k)
     by_system (Some f) i k = by_snap f i (find (λ (t : Snap). same_name t.name m.component) f.snaps) refl k
 
-made_from : (s : State) (target : Target) (mark : Member) → refusal_of s (bookmark_rule target mark) ≡ None → MarksFrom s.now (bookmarked s.now target mark)
+made_from : (s : State) (target : Target) (mark : Member) → refusal_of s (bookmark_rule target mark) ≡ None → MarksFrom (λ _. false) s.now (bookmarked s.now target mark)
 unfolding refusal_of
 made_from s target mark none = by_target target (row_false (bookmark_row s.now target mark) none (not (is_beside target mark), NotAncestor) (inr (inr (inl refl))))
   where
@@ -218,7 +224,7 @@ made_from s target mark none = by_target target (row_false (bookmark_row s.now t
     is_true false e = cc
 
     by_place : (m : Member) → m.file_system ≡ mark.file_system → (x : Option (FileSystem × Snap)) → placed s.now (OfSnapshot m) ≡ x
-        → MarksFrom s.now (option_map_or (λ (p : FileSystem × Snap). with_file_system s.now mark.file_system (λ f. record f { bookmarks = insert f.bookmarks mark.component (bookmark_of_snap p.1) })) x s.now)
+        → MarksFrom (λ _. false) s.now (option_map_or (λ (p : FileSystem × Snap). with_file_system s.now mark.file_system (λ f. record f { bookmarks = insert f.bookmarks mark.component (bookmark_of_snap p.1) })) x s.now)
     by_place m same None e = λ a at b h. inl h
     by_place m same (Some p) e = by_system (get s.now.file_systems mark.file_system) refl
       where
@@ -229,7 +235,7 @@ made_from s target mark none = by_target target (row_false (bookmark_row s.now t
         snap = subst (λ n. HasSnap s.now n p.1) same (named_there s.now m p e)
 
         by_system : (x : Option FileSystem) → get s.now.file_systems mark.file_system ≡ x
-            → MarksFrom s.now (option_map_or (λ f. record s.now { file_systems = insert s.now.file_systems mark.file_system (noted f) }) x s.now)
+            → MarksFrom (λ _. false) s.now (option_map_or (λ f. record s.now { file_systems = insert s.now.file_systems mark.file_system (noted f) }) x s.now)
         by_system None i = λ a at b h. inl h
         by_system (Some f) i = λ a at b (later, is, h). ⊎_elim
             (λ (k : (a ≡ mark.file_system) × (later ≡ noted f)).
@@ -238,14 +244,14 @@ made_from s target mark none = by_target target (row_false (bookmark_row s.now t
             (λ (q : at ≡ mark.component).
             let one = same_value (bookmark_of_snap p.1) b
             (sym (get-insert_same name_order f.bookmarks mark.component (bookmark_of_snap p.1)) ∙ ap (get (insert f.bookmarks mark.component (bookmark_of_snap p.1))) (sym q) ∙ here) in
-            inr (p.1, subst (λ n. HasSnap s.now n p.1) (sym k.0) snap, sym one))
+            inr (inl (p.1, subst (λ n. HasSnap s.now n p.1) (sym k.0) snap, sym one)))
             (λ (ne : ¬ (at ≡ mark.component)).
             inl (f, ap (get s.now.file_systems) k.0 ∙ i, sym (get-insert_other name_order f.bookmarks mark.component (bookmark_of_snap p.1) at ne) ∙ here))
             (key_cases name_order at mark.component))
             (λ (k : (¬ (a ≡ mark.file_system)) × (get s.now.file_systems a ≡ Some later)). inl (later, k.1, h))
             (put_cases s.now.file_systems mark.file_system (noted f) a later is)
 
-    by_target : (target : Target) → not (is_beside target mark) ≡ false → MarksFrom s.now (bookmarked s.now target mark)
+    by_target : (target : Target) → not (is_beside target mark) ≡ false → MarksFrom (λ _. false) s.now (bookmarked s.now target mark)
     by_target (OfFileSystem name) e = λ a at b h. inl h
     by_target (OfBookmark m) e = λ a at b h. inl h
     by_target (OfSnapshot m) e = by_place m (one_name m.file_system mark.file_system (is_true (same_name m.file_system mark.file_system) e)) (placed s.now (OfSnapshot m)) refl
@@ -295,42 +301,54 @@ got s m (Some sent) mode number = received_kept s.now m sent mode number
 
 -- ---- steps
 
-swept_marks : (w : World) (s : State) → MarksFrom w s.now → MarksFrom w (state_after_sweep s).now
+swept_marks : (gives : Name → Bool) (w : World) (s : State) → MarksFrom gives w s.now → MarksFrom gives w (state_after_sweep s).now
 unfolding state_after_sweep
-swept_marks w s k a at b h = k a at b (without_kept s.now (λ t. t.deferred && not (is_needed s.now s.views t)) a at b h)
+swept_marks gives w s k a at b h = k a at b (without_kept s.now (λ t. t.deferred && not (is_needed s.now s.views t)) a at b h)
 
-pub step_marks : (q : Request) (r : Reply) (s new : State) → Step s q r new → MarksFrom (world_before s q r) new.now
-step_marks q r s new step = step_joins MarksFrom (λ w a at b h. inl h) swept_marks q r s new step (by_request q)
+-- a rename
+renamed_from : (s : State) (name to : Name) → refusal_of s (rename_rule name to) ≡ None → MarksFrom (is_in_family to) s.now (with_renamed s.now name to)
+renamed_from s name to none a at b (f, is, h) = by_test (is_in_family to a) refl
   where
-    same : MarksFrom s.now s.now
-    same a at b h = inl h
+    can : CanRename s.now.file_systems name to
+    can = rename_can s name to none
 
+    was : get s.now.file_systems (exchanged name to a) ≡ Some f
+    was = sym (renamed_at s.now.file_systems name to can a) ∙ is
+
+    by_test : (x : Bool) → is_in_family to a ≡ x → HasMark s.now a at b ⊎ (((t : Snap) × HasSnap s.now a t × (b ≡ bookmark_of_snap t)) ⊎ (is_in_family to a ≡ true))
+    by_test true e = inr (inr e)
+    by_test false e = inl (f, ap (get s.now.file_systems) (sym (outside_kept s.now.file_systems name to can a f e was)) ∙ was, h)
+
+pub step_marks : (q : Request) (r : Reply) (s new : State) → Step s q r new → MarksFrom (given q r) (world_before s q r) new.now
+step_marks q r s new step = step_joins (MarksFrom (given q r)) (λ w a at b h. inl h) (swept_marks (given q r)) q r s new step (by_request q)
+  where
     by_request : (q : Request) (c : Choice) → refusal_of s (rule_of q step.reading) ≡ None → r ≡ (rule_of q step.reading).reply s
-        → MarksFrom (world_before s q r) ((rule_of q step.reading).after s c).now
+        → MarksFrom (given q r) (world_before s q r) ((rule_of q step.reading).after s c).now
     by_request (ToCreate name) c none is = λ a at b h. inl (empty_kept s.now name empty_file_system refl a at b h)
     by_request (ToWrite target object block bytes) c none is = λ a at b h. inl (changed s target _ c a at b h)
     by_request (ToPunch target object block) c none is = λ a at b h. inl (changed s target _ c a at b h)
     by_request (ToFreeObject target object) c none is = λ a at b h. inl (changed s target _ c a at b h)
     by_request (ToSnapshot names recursive) c none is = λ a at b h. inl (took s (snapshot_names s.now names recursive) a at b h)
-    by_request (ToRead target object block) c none is = same
-    by_request (ToGet target property) c none is = same
-    by_request (ToPoolGet property) c none is = same
-    by_request ToList c none is = same
+    by_request (ToRead target object block) c none is = λ a at b h. inl h
+    by_request (ToGet target property) c none is = λ a at b h. inl h
+    by_request (ToPoolGet property) c none is = λ a at b h. inl h
+    by_request ToList c none is = λ a at b h. inl h
     by_request (ToRollback target later) c none is = λ a at b h. inl (rolled_kept s.now target a at b h)
     by_request (ToDestroy target recursive defer) c none is = λ a at b h. inl (destroyed_kept s.now (λ t. defer && is_needed s.now s.views t) target recursive a at b h)
-    by_request (ToSlice count) c none is = same
-    by_request ToSync c none is = same
-    by_request ToAbandon c none is = subst (λ x. MarksFrom (world_before s ToAbandon x) s.last) (sym is) (λ a at b h. inl h)
+    by_request (ToSlice count) c none is = λ a at b h. inl h
+    by_request ToSync c none is = λ a at b h. inl h
+    by_request ToAbandon c none is = subst (λ x. MarksFrom (given ToAbandon x) (world_before s ToAbandon x) s.last) (sym is) (λ a at b h. inl h)
     by_request (ToOpenView target) c none is = λ a at b h. inl (opened s target a at b h)
-    by_request (ToCloseView view) c none is = same
+    by_request (ToCloseView view) c none is = λ a at b h. inl h
     by_request (ToClone target name) c none is = λ a at b h. inl (cloned s target name a at b h)
     by_request (ToPromote name) c none is = λ a at b h. inl (turned s name a at b h)
+    by_request (ToRename name to) c none is = subst (λ x. MarksFrom (given (ToRename name to) x) s.now (with_renamed s.now name to)) (sym is) (renamed_from s name to none)
     by_request (ToHold tag target) c none is = λ a at b h. inl (tagged s.now target (λ t. t.tags ++ tag ∷ []) a at b h)
     by_request (ToRelease tag target) c none is = λ a at b h. inl (tagged s.now target (λ t. without_tag t.tags tag) a at b h)
-    by_request (ToHolds target) c none is = same
+    by_request (ToHolds target) c none is = λ a at b h. inl h
     by_request (ToBookmark target mark) c none is = made_from s target mark none
-    by_request (ToWrittenSince target since) c none is = same
-    by_request (ToWouldFree name first last) c none is = same
+    by_request (ToWrittenSince target since) c none is = λ a at b h. inl h
+    by_request (ToWouldFree name first last) c none is = λ a at b h. inl h
     by_request (ToSet name limit amount) c none is = λ a at b h. inl (one_kept s.now name (λ f. limited f limit amount) (λ f at b h. h) a at b h)
-    by_request (ToSend target from) c none is = same
+    by_request (ToSend target from) c none is = λ a at b h. inl h
     by_request (ToReceive m bytes mode) c none is = λ a at b h. inl (got s m step.reading mode c.number a at b h)

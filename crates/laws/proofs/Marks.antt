@@ -10,7 +10,7 @@ use Rattle.base.specs.Surveys.{IsIn}
 use Rattle.base.specs.Names.{same_name}
 use Rattle.base.specs.declared.name.member.Member.{Member}
 use Rattle.base.specs.declared.name.target.Target.TheVariants.{Snapshot as OfSnapshot}
-use Rattle.model.specs.declared.request.Request.TheVariants.{Bookmark as ToBookmark}
+use Rattle.model.specs.declared.request.Request.TheVariants.{Bookmark as ToBookmark, Rename as ToRename}
 use Rattle.model.specs.declared.reply.Reply.TheVariants.{Done, Refused}
 use Rattle.model.specs.World.{World, FileSystem, Snap, SnapId, Bookmark, Snapped, id_of, map_of, snap_named, bookmark_named}
 use Rattle.model.specs.State.{State}
@@ -19,21 +19,28 @@ use Rattle.model.specs.Outcome.{is_needed, state_after_sweep, state_after}
 use Rattle.model.specs.Refusals.{refusal_of}
 use Rattle.model.specs.Step.{Step, IsDone, Follows, done, refused, out_of_memory}
 use Rattle.model.specs.requests.Bookmark.{bookmarked, bookmark_of_snap, bookmark_row, bookmark_rule, is_beside}
+use Rattle.model.specs.requests.Rename.{renamed, with_renamed, rename_rule}
 use Rattle.model.specs.requests.Rollback.{placed}
 use Rattle.world.specs.RunLaws.{HasSnap}
-use Rattle.world.specs.Shapes.{name_order}
+use Rattle.world.specs.Shapes.{Name, name_order}
 use Rattle.world.proofs.lists.Finding.{append_none, from_find, one_name}
 use Rattle.world.proofs.lists.Maps.{no_value, get-insert_same}
+use Rattle.world.proofs.lists.Names.{exchanged}
+use Rattle.world.proofs.changes.Renames.{CanRename, old_apart, new_apart, twice, renamed_is, renamed_back}
 use Rattle.world.proofs.lineage.Put.{put_here}
+use Rattle.world.proofs.views.ViewedRenames.{rename_can}
 use Rattle.world.proofs.views.ViewedRequests.{row_false}
 use Rattle.world.proofs.removals.WithoutSnaps.{without_at}
 use Rattle.laws.specs.Lineages.{HasLineages}
-use Rattle.laws.specs.Bookmarks.{IsSource, IsMarkedBy, BookmarkMade, BookmarkStands, BookmarkLasts}
+use Rattle.laws.specs.Bookmarks.{IsSource, IsMarkedBy, BookmarkMade, BookmarkStands, BookmarkLasts, RenamesCarry}
 use Rattle.laws.proofs.Lineages.{kept_map, reach_older, line_source}
 use Rattle.laws.proofs.Leading.{Leads, step_leads, leads_lineages, HasSnapMap, leads_held}
-use Rattle.laws.proofs.Lasting.{first_holds, run_has, now_lasts}
+use Rattle.laws.specs.Runs.{given}
+use Rattle.laws.proofs.Lasting.{first_holds, run_has, now_lasts_at}
 use Rattle.laws.proofs.Marking.{HasMark}
-use Rattle.laws.proofs.Stepping.{became_source}
+use Rattle.laws.proofs.Edits.{same_later, without_later}
+use Rattle.laws.proofs.Moving.{moved_ordered, moved_source}
+use Rattle.laws.proofs.Stepping.{Became, went, became_source}
 
 -- ---- a bookmark stands
 
@@ -54,8 +61,8 @@ record HasSource (mark : Member) (b : Bookmark) (held : Map) (w : World) : Type 
   marked : bookmark_named w mark ≡ Some b
   source : IsSource w mark.file_system b.group held
 
-leads_source : (mark : Member) (b : Bookmark) (held : Map) (w new : World) → HasSource mark b held w → Leads w new → bookmark_named new mark ≡ Some b → HasSource mark b held new
-leads_source mark b held w new h leads stands = record { lines = leads_lineages w new h.lines leads; marked = stands; source = source }
+leads_source : (mark : Member) (b : Bookmark) (held : Map) (gives : Name → Bool) (w new : World) → HasSource mark b held w → Leads gives w new → bookmark_named new mark ≡ Some b → HasSource mark b held new
+leads_source mark b held gives w new h leads stands = record { lines = leads_lineages gives w new h.lines leads; marked = stands; source = source }
   where
     source : IsSource new mark.file_system b.group held
     source =
@@ -66,7 +73,7 @@ leads_source mark b held w new h leads stands = record { lines = leads_lineages 
 
 pub bookmark_stands : BookmarkStands
 bookmark_stands s u qs rs mark b held lines within run source =
-    (run_has (HasSource mark b held) (λ w. bookmark_named w mark ≡ Some b) (leads_source mark b held) (λ w stands. stands) s u qs rs
+    (run_has (HasSource mark b held) (λ w. bookmark_named w mark ≡ Some b) (λ gives. Unit {0}) tt (λ gives w new _ h leads stands. leads_source mark b held gives w new h leads stands) (λ w stands. stands) s u qs rs (λ i q r e f. tt)
     (record { lines = lines; marked = first_holds (IsMarkedBy mark b) s u qs rs run; source = source }) (inr within) run).0.source
 
 -- ---- it is made
@@ -130,7 +137,7 @@ module _ (s : State) (lines : HasLineages s.now) (name mark : Member) (t : Snap)
       subst (IsSource s.now mark.file_system t.group) (kept_map s.now lines.order mark.file_system f t (id_of t) at there refl)
       (line_source s.now lines mark.file_system f at k.0 (id_of t) k.1)
 
-  goes_on : Leads s.now u.now
+  goes_on : Leads (given (ToBookmark (OfSnapshot name) mark) Done) s.now u.now
   goes_on = step_leads (ToBookmark (OfSnapshot name) mark) Done s u step
 
   made : IsMarkedBy mark (bookmark_of_snap t) u × IsSource u.now mark.file_system t.group t.map
@@ -172,6 +179,61 @@ bookmark_made s u name mark t lines named step = by_end step.follows
     by_end (refused h) = absurd (not_done h.why h.reply_is)
     by_end (out_of_memory h) = absurd (not_done NoMemory h.reply_is)
 
+-- ---- a rename carries it
+
+module _ (s : State) (lines : HasLineages s.now) (from to : Name) (can : CanRename s.now.file_systems from to) (u : State) (leads : Leads (given (ToRename from to) Done) s.now u.now)
+    (is : u ≡ state_after_sweep (with_now s (with_renamed s.now from to))) (mark : Member) (b : Bookmark) (held : Map) (f : FileSystem)
+    (at : get s.now.file_systems mark.file_system ≡ Some f) (marked : get f.bookmarks mark.component ≡ Some b) where
+  abbrev moved_to : World
+  moved_to = with_renamed s.now from to
+
+  abbrev new_name : Name
+  new_name = renamed from to mark.file_system
+
+  abbrev swept_out : Snap → Bool
+  swept_out t = t.deferred && not (is_needed (with_renamed s.now from to) s.views t)
+
+  same : new_name ≡ exchanged from to mark.file_system
+  same = renamed_is from to (old_apart s.now.file_systems from to can) (new_apart s.now.file_systems from to can) mark.file_system (can.free mark.file_system f at)
+
+  at_new : get (with_renamed s.now from to).file_systems new_name ≡ Some f
+  at_new = ap (get moved_to.file_systems) same ∙ renamed_back s.now.file_systems from to can mark.file_system ∙ at
+
+  at_end : get u.now.file_systems new_name ≡ Some (record f { snaps = filter (λ t. not (swept_out t)) f.snaps })
+  unfolding state_after_sweep
+  at_end = ap (λ (x : State). get x.now.file_systems new_name) is ∙ without_at moved_to swept_out new_name f at_new
+
+  later : Became (with_renamed s.now from to) u.now
+  unfolding state_after_sweep
+  later = subst (λ (x : State). Became moved_to x.now) (sym is) (went (without_later moved_to moved_to swept_out (same_later moved_to)))
+
+  carried : IsMarkedBy (record mark { file_system = new_name }) b u × (IsSource s.now mark.file_system b.group held → IsSource u.now new_name b.group held)
+  carried = (
+    ap (option_and_then (λ (x : FileSystem). get x.bookmarks mark.component)) at_end ∙ marked,
+    λ source.
+        became_source moved_to u.now (moved_ordered s.now lines.order from to can) (leads.order lines.order) new_name f (record f { snaps = filter (λ t. not (swept_out t)) f.snaps }) at_new at_end
+        mark.component b marked (lines.order.marks mark.file_system mark.component f b at marked) held later
+        (moved_source s.now lines.order from to can new_name f at_new b.group held
+        (subst (λ n. IsSource s.now n b.group held) (sym (ap (exchanged from to) same ∙ twice s.now.file_systems from to can mark.file_system)) source)),
+  )
+
+-- the state that it ends in
+rename_ended : (s u : State) (from to : Name) → IsDone s (rename_rule from to) Done u → u ≡ state_after_sweep (with_now s (with_renamed s.now from to))
+unfolding state_after
+rename_ended s u from to h = h.new_is
+
+pub renames_carry : RenamesCarry
+renames_carry s u from to mark b held lines step stands = by_end step.follows
+  where
+    by_end : Follows s (rename_rule from to) Done u
+        → IsMarkedBy (record mark { file_system = renamed from to mark.file_system }) b u
+        × (IsSource s.now mark.file_system b.group held → IsSource u.now (renamed from to mark.file_system) b.group held)
+    by_end (done h) =
+        let m = marked_at s.now mark b stands in
+        carried s lines from to (rename_can s from to h.not_refused) u (step_leads (ToRename from to) Done s u step) (rename_ended s u from to h) mark b held m.0 m.1 m.2
+    by_end (refused h) = absurd (not_done h.why h.reply_is)
+    by_end (out_of_memory h) = absurd (not_done NoMemory h.reply_is)
+
 -- ---- a bookmark lasts
 
 -- What holds after a bookmark was made of a snapshot of this identity, which held this map: of the file system of this name
@@ -179,11 +241,11 @@ record IsKept (id : SnapId) (held : Map) (a : List ℕ) (w : World) : Type 0 whe
   snap : HasSnapMap id held w
   source : (at : List ℕ) → HasMark w a at (record { guid = id.guid; group = id.group }) → IsSource w a id.group held
 
--- it goes on: a bookmark that stands stood before, or is made of that very snapshot
-leads_kept : (id : SnapId) (held : Map) (a : List ℕ) (w new : World) → IsKept id held a w → Leads w new → IsKept id held a new
-leads_kept id held a w new kept leads = record {
-  snap = leads_held id held w new kept.snap leads;
-  source = λ at h. on at h (⊎_elim (λ k. (k.0, k.1, kept.source at k)) (λ k. (k.1.0, k.1.1, anew k.0 k.1 k.2)) (leads.marks a at b h));
+-- it goes on: a bookmark that stands stood before, or is made of that very snapshot, where no other file system is given the name
+leads_kept : (id : SnapId) (held : Map) (a : List ℕ) (gives : Name → Bool) (w new : World) → gives a ≡ false → IsKept id held a w → Leads gives w new → IsKept id held a new
+leads_kept id held a gives w new none kept leads = record {
+  snap = leads_held id held gives w new kept.snap leads;
+  source = λ at h. on at h (⊎_elim (λ k. (k.0, k.1, kept.source at k)) (λ k. ⊎_elim (λ m. (m.1.0, m.1.1, anew m.0 m.1 m.2)) (λ e. absurd (true≢false (sym e ∙ none))) k) (leads.marks a at b h));
 }
   where
     b : Bookmark
@@ -204,9 +266,9 @@ leads_kept id held a w new kept leads = record {
         became_source w new lines.order (leads.order lines.order) a f f' is is' at b marked kept.snap.closed held (leads.became lines.order) source
 
 pub bookmark_lasts : BookmarkLasts
-bookmark_lasts s v u name mark t qs rs lines named step within run stands =
+bookmark_lasts s v u name mark t qs rs lines named step within never run stands =
     let m = marked_at u.now mark (bookmark_of_snap t) stands in
-    (now_lasts (IsKept (id_of t) t.map mark.file_system) (leads_kept (id_of t) t.map mark.file_system) v u qs rs made_kept within run).source mark.component m
+    (now_lasts_at (IsKept (id_of t) t.map mark.file_system) mark.file_system (leads_kept (id_of t) t.map mark.file_system) v u qs rs made_kept within never run).source mark.component m
   where
     f : (f : FileSystem) × (get s.now.file_systems name.file_system ≡ Some f) × IsIn f.snaps t × (placed s.now (OfSnapshot name) ≡ Some (f, t))
     f = found_at s.now name t named
@@ -220,6 +282,6 @@ bookmark_lasts s v u name mark t qs rs lines named step within run stands =
 
     made_kept : IsKept (id_of t) t.map mark.file_system v.now
     made_kept = record {
-      snap = leads_held (id_of t) t.map s.now v.now held (step_leads (ToBookmark (OfSnapshot name) mark) Done s v step);
+      snap = leads_held (id_of t) t.map (given (ToBookmark (OfSnapshot name) mark) Done) s.now v.now held (step_leads (ToBookmark (OfSnapshot name) mark) Done s v step);
       source = λ at h. (bookmark_made s v name mark t lines named step).1;
     }

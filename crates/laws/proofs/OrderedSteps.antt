@@ -23,7 +23,7 @@ use Rattle.model.specs.Limits.{limited}
 use Rattle.model.specs.declared.receiving.Receiving.{Receiving}
 use Rattle.model.specs.declared.receiving.Receiving.TheVariants.{Plain, Back, Past, Origin, Replace}
 use Rattle.model.specs.declared.request.Request.{Request}
-use Rattle.model.specs.declared.request.Request.TheVariants.{Create as ToCreate, Write as ToWrite, Punch as ToPunch, FreeObject as ToFreeObject, Snapshot as ToSnapshot, Read as ToRead, Get as ToGet, PoolGet as ToPoolGet, List as ToList, Rollback as ToRollback, Destroy as ToDestroy, Slice as ToSlice, Sync as ToSync, Abandon as ToAbandon, OpenView as ToOpenView, CloseView as ToCloseView, Clone as ToClone, Promote as ToPromote, Hold as ToHold, Release as ToRelease, Holds as ToHolds, Bookmark as ToBookmark, WrittenSince as ToWrittenSince, WouldFree as ToWouldFree, Set as ToSet, Send as ToSend, Receive as ToReceive}
+use Rattle.model.specs.declared.request.Request.TheVariants.{Create as ToCreate, Write as ToWrite, Punch as ToPunch, FreeObject as ToFreeObject, Snapshot as ToSnapshot, Read as ToRead, Get as ToGet, PoolGet as ToPoolGet, List as ToList, Rollback as ToRollback, Destroy as ToDestroy, Slice as ToSlice, Sync as ToSync, Abandon as ToAbandon, OpenView as ToOpenView, CloseView as ToCloseView, Clone as ToClone, Promote as ToPromote, Rename as ToRename, Hold as ToHold, Release as ToRelease, Holds as ToHolds, Bookmark as ToBookmark, WrittenSince as ToWrittenSince, WouldFree as ToWouldFree, Set as ToSet, Send as ToSend, Receive as ToReceive}
 use Rattle.model.specs.declared.reply.Reply.{Reply}
 use Rattle.model.specs.World.{World, FileSystem, Snap, SnapId, Bookmark, id_of, file_system_at, snap_named, empty_file_system, map_of_snap, clones_of}
 use Rattle.model.specs.State.{State, Views, is_viewed}
@@ -53,6 +53,7 @@ use Rattle.world.proofs.lists.Maps.{same_value, no_value, at_entry, key_cases, g
 use Rattle.world.proofs.steps.States.{in_clones, positive, swept_bare}
 use Rattle.world.proofs.views.Viewed.{IsSafe, snap_found, one_changed}
 use Rattle.world.proofs.views.ViewedReceives.{stream_none, no_full, no_incremental, new_absent, origin_absent, replaced_bare, replaced_alone, past_alone, from_named, from_source, snap_within}
+use Rattle.world.proofs.views.ViewedRenames.{rename_can}
 use Rattle.world.proofs.views.ViewedRequests.{row_false, not_some, from_placed}
 use Rattle.world.proofs.removals.WithoutSnaps.{any_from}
 use Rattle.laws.specs.Lineages.{IsOrdered, origin_group}
@@ -60,6 +61,7 @@ use Rattle.laws.proofs.Before.{world_before, step_joins}
 use Rattle.laws.proofs.Edits.{marks_left}
 use Rattle.laws.proofs.Orders.{same_followed, one_ordered, without_ordered, deferred_ordered, tagged_ordered, losses_ordered, added_ordered, left_ordered, taken_ordered}
 use Rattle.laws.proofs.Rising.{rising_filter}
+use Rattle.laws.proofs.Moving.{moved_ordered}
 use Rattle.laws.proofs.Turning.{turned_ordered}
 
 -- ---- what the rows say of clones
@@ -402,6 +404,7 @@ step_ordered q r s new step =
     by_request (ToCloseView view) c none is o = o
     by_request (ToClone target name) c none is o = cloned s o target name none
     by_request (ToPromote name) c none is o = promoted_on s o name
+    by_request (ToRename name to) c none is o = moved_ordered s.now o name to (rename_can s name to none)
     by_request (ToHold tag target) c none is o = tags_ordered s.now o target (λ t. t.tags ++ tag ∷ [])
     by_request (ToRelease tag target) c none is o = tags_ordered s.now o target (λ t. without_tag t.tags tag)
     by_request (ToHolds target) c none is o = o

@@ -1,5 +1,5 @@
 -- A receive leaves the file system with one snapshot more, of the live map that it has then.
-use Rattle.std.proofs.Common.{◌≡◌, ◌<◌, ◌≤◌, ℕ, Bool, true, false, [], Option, Some, None, refl, sym, ap, subst, ◌∙◌, ◌⊎◌, inl, inr, ⊎_elim, arith}
+use Rattle.std.proofs.Common.{◌≡◌, ◌<◌, ℕ, Bool, true, false, Option, Some, None, refl, sym, ap, subst, ◌∙◌, ◌⊎◌, inl, inr, ⊎_elim, arith}
 use Rattle.std.specs.Prelude.{◌==◌, if◌then◌else◌}
 use Rattle.std.specs.List.{last_or}
 use Rattle.std.specs.Option.{option_map_or, option_and_then}
@@ -19,7 +19,6 @@ use Rattle.model.specs.Edits.{with_file_system, with_losses, after_change}
 use Rattle.model.specs.Refusals.{refusal_of}
 use Rattle.model.specs.Rule.{first_of}
 use Rattle.model.specs.requests.Clone.{with_clone}
-use Rattle.model.specs.requests.Create.{with_new_file_system}
 use Rattle.model.specs.requests.Receive.{newest_of, source_of, back_to_newest, forced_back, back_past, cloned_from, vacated, emptied, before_full, before_incremental, before_receive, received, full_row, incremental_row, stream_row, state_received, receive_rule}
 use Rattle.model.specs.requests.Rollback.{back_at}
 use Rattle.world.specs.Numbering.{ChangesKeys}

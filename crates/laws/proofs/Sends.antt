@@ -61,8 +61,8 @@ snapshot_sends s name id d lines numbers snap line =
     (numbers.world.trees (Snapped id)) line
 
 pub bookmark_sends : BookmarkSends
-bookmark_sends s v u name mark t qs rs d lines numbers named step within run stands line =
-    let source = bookmark_lasts s v u name mark t qs rs lines named step within run stands in
+bookmark_sends s v u name mark t qs rs d lines numbers named step within never run stands line =
+    let source = bookmark_lasts s v u name mark t qs rs lines named step within never run stands in
     let after = numbers_last s u (ToBookmark (OfSnapshot name) mark ∷ qs) (Done ∷ rs) numbers (v, step, run) in
     let f = found_at s.now name t named in
     let tree = subst (IsTree s.size) (kept_map s.now lines.order name.file_system f.0 t (id_of t) f.1 f.2 refl) (numbers.world.trees (Snapped (id_of t))) in
@@ -110,6 +110,6 @@ history_sends s u qs more rs others name mark lines numbers same run =
       t.0,
       k.1,
       t.1,
-      λ d within stands line.
-          bookmark_sends v w u name mark t.0 more others d (lineages_last s v qs rs lines k.1).0 (numbers_last s v qs rs numbers k.1) t.1 k.2.1 within k.2.2 stands line,
+      λ d within never stands line.
+          bookmark_sends v w u name mark t.0 more others d (lineages_last s v qs rs lines k.1).0 (numbers_last s v qs rs numbers k.1) t.1 k.2.1 within never k.2.2 stands line,
     )

@@ -15,7 +15,7 @@ use Rattle.model.specs.declared.destroy_target.DestroyTarget.TheVariants.{FileSy
 use Rattle.model.specs.Limits.{limited}
 use Rattle.model.specs.declared.limits.Limit.{Limit}
 use Rattle.model.specs.declared.request.Request.{Request}
-use Rattle.model.specs.declared.request.Request.TheVariants.{Create as ToCreate, Write as ToWrite, Punch as ToPunch, FreeObject as ToFreeObject, Snapshot as ToSnapshot, Read as ToRead, Get as ToGet, PoolGet as ToPoolGet, List as ToList, Rollback as ToRollback, Destroy as ToDestroy, Slice as ToSlice, Sync as ToSync, Abandon as ToAbandon, OpenView as ToOpenView, CloseView as ToCloseView, Clone as ToClone, Promote as ToPromote, Hold as ToHold, Release as ToRelease, Holds as ToHolds, Bookmark as ToBookmark, WrittenSince as ToWrittenSince, WouldFree as ToWouldFree, Set as ToSet, Send as ToSend, Receive as ToReceive}
+use Rattle.model.specs.declared.request.Request.TheVariants.{Create as ToCreate, Write as ToWrite, Punch as ToPunch, FreeObject as ToFreeObject, Snapshot as ToSnapshot, Read as ToRead, Get as ToGet, PoolGet as ToPoolGet, List as ToList, Rollback as ToRollback, Destroy as ToDestroy, Slice as ToSlice, Sync as ToSync, Abandon as ToAbandon, OpenView as ToOpenView, CloseView as ToCloseView, Clone as ToClone, Promote as ToPromote, Rename as ToRename, Hold as ToHold, Release as ToRelease, Holds as ToHolds, Bookmark as ToBookmark, WrittenSince as ToWrittenSince, WouldFree as ToWouldFree, Set as ToSet, Send as ToSend, Receive as ToReceive}
 use Rattle.model.specs.declared.reply.Reply.{Reply}
 use Rattle.model.specs.World.{World, FileSystem, Snap, SnapId, Bookmark, Snapped, id_of, empty_file_system, map_of, map_of_snap}
 use Rattle.model.specs.State.{State}
@@ -30,6 +30,7 @@ use Rattle.model.specs.requests.Change.{state_after_change}
 use Rattle.model.specs.requests.Clone.{with_clone, clone_row, clone_rule}
 use Rattle.model.specs.requests.Create.{with_new_file_system, create_row, create_rule}
 use Rattle.model.specs.requests.Destroy.{file_systems_named, snaps_named, is_one_of, after_destroy}
+use Rattle.model.specs.requests.Rename.{with_renamed, rename_rule}
 use Rattle.model.specs.requests.OpenView.{with_view}
 use Rattle.model.specs.requests.Promote.{Promotion, promotion_of, after_promotion}
 use Rattle.model.specs.requests.Release.{without_tag}
@@ -39,6 +40,9 @@ use Rattle.model.specs.requests.Snapshot.{snapshots_taken, snapshot_names, guid_
 use Rattle.world.specs.Dead.{IsThere}
 use Rattle.world.specs.Shapes.{Name}
 use Rattle.world.proofs.lists.Maps.{same_value, no_value}
+use Rattle.world.proofs.changes.Renames.{kept_name}
+use Rattle.world.proofs.removals.WithoutSnaps.{from_without}
+use Rattle.world.proofs.views.ViewedRenames.{rename_can}
 use Rattle.world.proofs.views.ViewedRequests.{row_false, from_placed}
 use Rattle.laws.specs.Lineages.{IsOrdered, HasLineages, HasBirths}
 use Rattle.laws.specs.Bookmarks.{IsSource}
@@ -47,45 +51,50 @@ use Rattle.laws.proofs.Edits.{went_same, went_written, went_back, same_later, on
 use Rattle.laws.proofs.Receiving.{got}
 use Rattle.laws.proofs.Lineages.{found}
 use Rattle.laws.proofs.Sources.{of_kept, was_there, source_stays, lineages_go_on}
-use Rattle.laws.proofs.Turning.{live_turned, turned_source, turned_ordered, turned_lineages, turned_births, turned_kept}
+use Rattle.laws.proofs.Moving.{moved_ordered, moved_source, moved_lineages, moved_births, moved_kept}
+use Rattle.laws.proofs.Turning.{turned_source, turned_ordered, turned_lineages, turned_births, turned_kept}
 use Rattle.laws.proofs.Births.{births_go_on}
 use Rattle.laws.proofs.Walking.{IsLater}
 
--- each file system is there, and what served it as a source serves it so
-abbrev pub IsTurned : World → World → Type 0
-IsTurned w v =
-    (name : Name) (f : FileSystem) → get w.file_systems name ≡ Some f
-    → (e : FileSystem) × (get v.file_systems name ≡ Some e) × ((group : ℕ) (held : Map) → IsSource w name group held → IsSource v name group held)
+-- what served a file system as a source serves it so, where there is one of that name in both
+abbrev pub AreSourcesKept : World → World → Type 0
+AreSourcesKept w v =
+    (name : Name) (f e : FileSystem) → get w.file_systems name ≡ Some f → get v.file_systems name ≡ Some e
+    → (group : ℕ) (held : Map) → IsSource w name group held → IsSource v name group held
 
--- what a promote leaves in a world
-pub record IsPromoted (w v : World) : Type 0 where
+-- each file system's name is one of the other world's
+abbrev pub AreNamesOf : World → World → Type 0
+AreNamesOf v new = (name : Name) (f : FileSystem) → get new.file_systems name ≡ Some f → (e : FileSystem) × (get v.file_systems name ≡ Some e)
+
+-- what a promote or a rename leaves in a world
+pub record IsTurned (w v : World) : Type 0 where
   pub order : IsOrdered v
   pub lineages : HasLineages w → HasLineages v
   pub births : HasBirths w → HasBirths v
   pub group : v.group ≡ w.group
-  pub sources : IsTurned w v
+  pub sources : AreSourcesKept w v
   pub kept : (id : SnapId) → IsThere v (Snapped id) → IsThere w (Snapped id) × (map_of v (Snapped id) ≡ map_of w (Snapped id))
 
--- its file systems went on; or those of a world did that a promote led to
+-- its file systems went on; or those of a world did that a promote or a rename led to
 pub data Became (w new : World) : Type 0 where
   went : IsLater w new → Became w new
-  turned : (v : World) → IsPromoted w v → IsLater v new → Became w new
+  turned : (v : World) → IsTurned w v → IsLater v new → AreNamesOf v new → Became w new
 
 -- so lineages go on
 pub became_lineages : (w new : World) → HasLineages w → IsOrdered new → Became w new → HasLineages new
 became_lineages w new lines o' (went later) = lineages_go_on w new lines o' later
-became_lineages w new lines o' (turned v turn later) = lineages_go_on v new (turn.lineages lines) o' later
+became_lineages w new lines o' (turned v turn later names) = lineages_go_on v new (turn.lineages lines) o' later
 
 -- and births are where they are to be
 pub became_births : (w new : World) → IsOrdered w → HasBirths w → w.group ≤ new.group → Became w new → HasBirths new
 became_births w new o births up (went later) = births_go_on w new o later births up
-became_births w new o births up (turned v turn later) = let g = turn.group in births_go_on v new turn.order later (turn.births births) (omega arith)
+became_births w new o births up (turned v turn later names) = let g = turn.group in births_go_on v new turn.order later (turn.births births) (omega arith)
 
 -- a snapshot of a closed group was there, with its map
 pub became_kept : (w new : World) → IsOrdered w → IsOrdered new → Became w new → (id : SnapId) → id.group < w.group → IsThere new (Snapped id)
     → IsThere w (Snapped id) × (map_of new (Snapped id) ≡ map_of w (Snapped id))
 became_kept w new o o' (went later) id low there = let was = was_there w new o o' later id low there in (was, of_kept w new o o' later id was there)
-became_kept w new o o' (turned v turn later) id low there =
+became_kept w new o o' (turned v turn later names) id low there =
     let g = turn.group in
     let mid = was_there v new turn.order o' later id (omega arith) there in
     let was = turn.kept id mid in
@@ -97,17 +106,21 @@ module _ (w new : World) (o : IsOrdered w) (o' : IsOrdered new) (name : Name) (f
   pub became_source : Became w new → IsSource w name b.group held → IsSource new name b.group held
   became_source (went later) source =
       source_stays w new o o' later name f f' is is' b.group closed (λ v h newest. newest.marks at b marked) held source
-  became_source (turned v turn later) source =
-      let k = turn.sources name f is in
+  became_source (turned v turn later names) source =
+      let k = names name f' is' in
       source_stays v new turn.order o' later name k.0 f' k.1 is' b.group (subst (λ y. b.group < y) (sym turn.group) closed)
-      (λ u h newest. newest.marks at b marked) held (k.2 b.group held source)
+      (λ u h newest. newest.marks at b marked) held (turn.sources name f k.0 is k.1 b.group held source)
 
 -- ---- the sweep
 
 became_swept : (w : World) (s : State) → Became w s.now → Became w (state_after_sweep s).now
 unfolding state_after_sweep
 became_swept w s (went later) = went (without_later w s.now (λ t. t.deferred && not (is_needed s.now s.views t)) later)
-became_swept w s (turned v turn later) = turned v turn (without_later v s.now (λ t. t.deferred && not (is_needed s.now s.views t)) later)
+became_swept w s (turned v turn later names) = turned v turn (without_later v s.now goes later)
+    (λ name f at. let k = from_without s.now goes name f at in names name k.0 k.1)
+  where
+    goes : Snap → Bool
+    goes t = t.deferred && not (is_needed s.now s.views t)
 
 -- ---- requests
 
@@ -206,11 +219,23 @@ turned_over s o name = by_promotion (promotion_of s.now name) refl
       lineages = turned_lineages s.now o name p e;
       births = turned_births s.now o name p e;
       group = refl;
-      sources = λ q f at.
-          let k = live_turned s.now o name p e q f at in
-          (k.0, k.1, turned_source s.now o name p e q f at);
+      sources = λ q f g at at'. turned_source s.now o name p e q f at;
       kept = turned_kept s.now o name p e;
-    }) (same_later (after_promotion s.now name p))
+    }) (same_later (after_promotion s.now name p)) (λ q f at. (f, at))
+
+-- a rename
+moved_over : (s : State) → IsOrdered s.now → (name to : Name) → refusal_of s (rename_rule name to) ≡ None → Became s.now (with_renamed s.now name to)
+moved_over s o name to none =
+    let can = rename_can s name to none in
+    turned (with_renamed s.now name to) (record {
+      order = moved_ordered s.now o name to can;
+      lineages = moved_lineages s.now o name to can;
+      births = moved_births s.now o name to can;
+      group = refl;
+      sources = λ q f g at at' group held source.
+          moved_source s.now o name to can q g at' group held (subst (λ n. IsSource s.now n group held) (sym (kept_name s.now.file_systems name to can q f g at at')) source);
+      kept = moved_kept s.now o name to can;
+    }) (same_later (with_renamed s.now name to)) (λ q f at. (f, at))
 
 -- ---- steps
 
@@ -238,6 +263,7 @@ step_became q r s new step =
     by_request (ToCloseView view) c none is o = went (same_later s.now)
     by_request (ToClone target name) c none is o = went (cloned s target name none)
     by_request (ToPromote name) c none is o = turned_over s o name
+    by_request (ToRename name to) c none is o = moved_over s o name to none
     by_request (ToHold tag target) c none is o = went (tagged s target (λ t. t.tags ++ tag ∷ []))
     by_request (ToRelease tag target) c none is o = went (tagged s target (λ t. without_tag t.tags tag))
     by_request (ToHolds target) c none is o = went (same_later s.now)

@@ -4,7 +4,7 @@ use Rattle.base.specs.Map.{Map}
 use Rattle.base.specs.declared.name.member.Member.{Member}
 use Rattle.base.specs.declared.name.target.Target.TheVariants.{Snapshot as OfSnapshot}
 use Rattle.model.specs.declared.request.Request.{Request}
-use Rattle.model.specs.declared.request.Request.TheVariants.{Bookmark as ToBookmark}
+use Rattle.model.specs.declared.request.Request.TheVariants.{Bookmark as ToBookmark, Rename as ToRename}
 use Rattle.model.specs.declared.reply.Reply.{Reply}
 use Rattle.model.specs.declared.reply.Reply.TheVariants.{Done}
 use Rattle.model.specs.World.{World, Snap, Bookmark, Dataset, Live, map_of, snap_named, bookmark_named}
@@ -12,9 +12,10 @@ use Rattle.model.specs.State.{State}
 use Rattle.model.specs.Step.{Step}
 use Rattle.model.specs.Run.{Run}
 use Rattle.model.specs.requests.Bookmark.{bookmark_of_snap}
+use Rattle.model.specs.requests.Rename.{renamed}
 use Rattle.world.specs.Dead.{group_of}
 use Rattle.laws.specs.Lineages.{IsBefore, SharesUntil, HasLineages}
-use Rattle.laws.specs.Runs.{GoesBackWithin}
+use Rattle.laws.specs.Runs.{GoesBackWithin, IsNeverGiven}
 
 -- What was held in this group serves as a source for a file system: it shares with its live map, and with each dataset before that whose
 -- group is not below this one, what they have from this group and before (zfs-send(8), -i with a bookmark; On-Disk Specification, chapter 4)
@@ -49,9 +50,17 @@ BookmarkStands =
     → IsSource u.now mark.file_system b.group held
 
 -- So does what a snapshot had, once a bookmark is made of it, after each such run at whose end the bookmark is there: also where it was
--- destroyed meanwhile and made again, which only that very snapshot allows (zfs-bookmark(8); zfs-send(8), -i with a bookmark)
+-- destroyed meanwhile and made again, which only that very snapshot allows. No rename of the run gives the bookmark's file system's name to
+-- another (zfs-bookmark(8); zfs-send(8), -i with a bookmark)
 abbrev pub BookmarkLasts : Type 0
 BookmarkLasts =
     (s v u : State) (name mark : Member) (t : Snap) (qs : List Request) (rs : List Reply) → HasLineages s.now → snap_named s.now name ≡ Some t
-    → Step s (ToBookmark (OfSnapshot name) mark) Done v → GoesBackWithin qs rs → Run v qs rs u → IsMarkedBy mark (bookmark_of_snap t) u
-    → IsSource u.now mark.file_system t.group t.map
+    → Step s (ToBookmark (OfSnapshot name) mark) Done v → GoesBackWithin qs rs → IsNeverGiven mark.file_system qs rs → Run v qs rs u
+    → IsMarkedBy mark (bookmark_of_snap t) u → IsSource u.now mark.file_system t.group t.map
+
+-- A rename that is done carries a bookmark and what serves its file system as a source to the new name (zfs-rename(8))
+abbrev pub RenamesCarry : Type 0
+RenamesCarry =
+    (s u : State) (from to : List ℕ) (mark : Member) (b : Bookmark) (held : Map) → HasLineages s.now → Step s (ToRename from to) Done u → IsMarkedBy mark b s
+    → IsMarkedBy (record mark { file_system = renamed from to mark.file_system }) b u
+    × (IsSource s.now mark.file_system b.group held → IsSource u.now (renamed from to mark.file_system) b.group held)

@@ -1,11 +1,12 @@
 -- What holds in a new pool, and again after every run, whatever numbers its steps choose.
-use Rattle.std.specs.Prelude.{◌≡◌, ◌<◌, ℕ, List, ◌++◌, Some, length, slice_get}
+use Rattle.std.specs.Prelude.{◌≡◌, ◌<◌, ℕ, Bool, false, List, ◌++◌, Some, length, slice_get}
 use Rattle.model.specs.declared.request.Request.{Request}
-use Rattle.model.specs.declared.request.Request.TheVariants.{Sync as ToSync, Abandon as ToAbandon}
+use Rattle.model.specs.declared.request.Request.TheVariants.{Sync as ToSync, Abandon as ToAbandon, Rename as ToRename}
 use Rattle.model.specs.declared.reply.Reply.{Reply}
 use Rattle.model.specs.declared.reply.Reply.TheVariants.{Done, Group as GroupIs}
 use Rattle.model.specs.World.{World, SnapId, Dataset, Snapped, map_of}
 use Rattle.model.specs.Numbers.{IsWorldNumbered, IsNumbered}
+use Rattle.model.specs.Hierarchy.{is_in_family}
 use Rattle.model.specs.State.{State, fresh_state}
 use Rattle.model.specs.Run.{Run}
 use Rattle.world.specs.Dead.{IsThere, IsInLine}
@@ -27,6 +28,15 @@ abbrev pub GoesBackWithin : List Request → List Reply → Type 0
 GoesBackWithin qs rs =
     (i : ℕ) → slice_get qs i ≡ Some ToAbandon → slice_get rs i ≡ Some Done
     → (j : ℕ) × (g : ℕ) × (j < i) × (slice_get qs j ≡ Some ToSync) × (slice_get rs j ≡ Some (GroupIs g))
+
+-- the names that a step gives to file systems which had others: those that begin with the new name of a rename that is done (zfs-rename(8))
+abbrev pub given : Request → Reply → List ℕ → Bool
+given (ToRename from to) Done name = is_in_family to name
+given q r name = false
+
+-- no step of a run gives this name to a file system (profile)
+abbrev pub IsNeverGiven : List ℕ → List Request → List Reply → Type 0
+IsNeverGiven name qs rs = (i : ℕ) (q : Request) (r : Reply) → slice_get qs i ≡ Some q → slice_get rs i ≡ Some r → given q r name ≡ false
 
 -- ---- lineages and births
 

@@ -19,7 +19,7 @@ use Rattle.world.specs.Dead.{group_of}
 use Rattle.world.specs.Worlds.{IsPoolState}
 use Rattle.laws.specs.Lineages.{IsBefore, HasLineages, HasBirths}
 use Rattle.laws.specs.Bookmarks.{IsSource, IsMarkedBy}
-use Rattle.laws.specs.Runs.{InBoth, GoesBackWithin}
+use Rattle.laws.specs.Runs.{InBoth, GoesBackWithin, IsNeverGiven}
 
 -- a full send of any dataset gives what it holds (zfs-send(8))
 abbrev pub FullSendOf : Type 0
@@ -52,13 +52,13 @@ SnapshotSends =
     (s : State) (name : List ℕ) (id : SnapId) (d : Dataset) → HasLineages s.now → IsNumbered s → IsInLineage s.now name 0 (Snapped id)
     → IsInLineage s.now name id.group d → Sends s.now id.group (map_of s.now (Snapped id)) d
 
--- From a bookmark: once it is made of a snapshot, after each run at whose end it is there and in which no Abandon goes back to before it,
--- whatever has become of the snapshot and whatever numbers the steps choose, the records since its group carry what the snapshot held to what
+-- From a bookmark: once it is made of a snapshot, after each run at whose end it is there, in which no Abandon goes back to before it and no rename
+-- gives its file system's name to another, whatever has become of the snapshot and whatever numbers the steps choose, the records since its group carry what the snapshot held to what
 -- each later dataset of the lineage holds (zfs-bookmark(8); zfs-send(8), -i with a bookmark)
 abbrev pub BookmarkSends : Type 0
 BookmarkSends =
     (s v u : State) (name mark : Member) (t : Snap) (qs : List Request) (rs : List Reply) (d : Dataset) → HasLineages s.now → IsNumbered s
-    → snap_named s.now name ≡ Some t → Step s (ToBookmark (OfSnapshot name) mark) Done v → GoesBackWithin qs rs → Run v qs rs u → IsMarkedBy mark (bookmark_of_snap t) u
+    → snap_named s.now name ≡ Some t → Step s (ToBookmark (OfSnapshot name) mark) Done v → GoesBackWithin qs rs → IsNeverGiven mark.file_system qs rs → Run v qs rs u → IsMarkedBy mark (bookmark_of_snap t) u
     → IsInLineage u.now mark.file_system t.group d → Sends u.now t.group t.map d
 
 -- So in a history: where it has a bookmark that was made, it was made of a snapshot that was there then, and if that bookmark is there at the
@@ -69,4 +69,4 @@ HistorySends =
     (s u : State) (qs more : List Request) (rs others : List Reply) (name mark : Member) → InBoth HasLineages s → IsNumbered s → length qs ≡ length rs
     → Run s (qs ++ ToBookmark (OfSnapshot name) mark ∷ more) (rs ++ Done ∷ others) u
     → (v : State) × (t : Snap) × Run s qs rs v × (snap_named v.now name ≡ Some t)
-    × ((d : Dataset) → GoesBackWithin more others → IsMarkedBy mark (bookmark_of_snap t) u → IsInLineage u.now mark.file_system t.group d → Sends u.now t.group t.map d)
+    × ((d : Dataset) → GoesBackWithin more others → IsNeverGiven mark.file_system more others → IsMarkedBy mark (bookmark_of_snap t) u → IsInLineage u.now mark.file_system t.group d → Sends u.now t.group t.map d)

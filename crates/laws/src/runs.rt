@@ -1,5 +1,5 @@
 //! Laws that hold of every run, as the contracts of functions without bodies.
-ghost use Rattle.laws.specs.Bookmarks.{BookmarkMade, BookmarkStands, BookmarkLasts};
+ghost use Rattle.laws.specs.Bookmarks.{BookmarkMade, BookmarkStands, BookmarkLasts, RenamesCarry};
 ghost use Rattle.laws.specs.Runs.{RunSplits, LineagesBegin, LineagesLast, BlocksGiveLineages, PoolsHaveLineages, SnapshotsKeep, BirthsBegin, BirthsLast, NumbersBegin, NumbersLast};
 ghost use Rattle.laws.specs.Views.{PoolsAreViewing};
 ghost use Rattle.world.specs.RunLaws.{RunGrows, ViewsBegin, ViewsLast, ViewsStand};
@@ -11,7 +11,8 @@ ghost use Rattle.world.specs.RunLaws.{RunGrows, ViewsBegin, ViewsLast, ViewsStan
 /// bookmark that is made of a snapshot has the snapshot's guid and group. As long as the bookmark is there, the map that the snapshot had then
 /// is a source for the bookmark's file system, even where the snapshot was destroyed (zfs-send(8), -i). That is: each block that was born by the
 /// snapshot's group, in the live map or in a dataset before it whose group isn't lower, is in that map at the same key and with the same bytes,
-/// and so is all below it. For that it is enough that the bookmark is there at the run's end.
+/// and so is all below it. For that it is enough that the bookmark is there at the run's end, where no rename of the run gives its file system's
+/// name to another. A rename carries bookmarks, and what serves as a source, to the new names (zfs-rename(8)).
 ///
 /// These laws on snapshots and bookmarks are of runs in which no Abandon goes back to before the run: each Abandon that is done comes after a
 /// Sync that is done in the run. An Abandon that goes back further undoes the bookmark with all that was made since, and later changes use the
@@ -27,6 +28,7 @@ pub fn run_laws()
     ensures bookmark_made { BookmarkMade }
     ensures bookmark_stands { BookmarkStands }
     ensures bookmark_lasts { BookmarkLasts }
+    ensures renames_carry { RenamesCarry }
 {}
 
 /// A new pool has lineages, and has them after every run, whatever numbers its steps choose. A world has lineages where each identity is of one

@@ -13,7 +13,7 @@ use Rattle.world.specs.Trees.{total}
 use Rattle.world.specs.Worlds.{AreFileSystems}
 use Rattle.datasets.specs.Rows.{Row, Entry}
 use Rattle.datasets.specs.Clones.{row_in}
-use Rattle.snap.specs.Taking.{is_in_family}
+use Rattle.model.specs.Hierarchy.{is_in_family}
 use Rattle.snap.proofs.Rests.{next_left}
 use Rattle.datasets.proofs.Above.{below_is_map}
 use Rattle.accounts.specs.Limits.{IsUnlimited}

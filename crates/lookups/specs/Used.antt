@@ -4,7 +4,7 @@ use Rattle.base.specs.Map.{blocks}
 use Rattle.model.specs.Sums.{size_without}
 use Rattle.model.specs.World.{blocks_of_all}
 use Rattle.datasets.specs.Rows.{Row}
-use Rattle.snap.specs.Taking.{is_in_family}
+use Rattle.model.specs.Hierarchy.{is_in_family}
 
 -- how many blocks a file system has that its origin hasn't (zfsprops(7): usedbydataset, usedbysnapshots)
 abbrev pub own_in : Row → ℕ

@@ -1,15 +1,19 @@
 -- File systems by name, and their hierarchy (zfs(8)).
-use Rattle.std.specs.Prelude.{◌≡◌, ◌⊎◌, ◌≤◌, ℕ, Bool, false, List, Option, IsSome, IsTrue}
+use Rattle.std.specs.Prelude.{◌≡◌, ◌⊎◌, ◌≤◌, ◌||◌, ℕ, Bool, false, List, Option, IsSome, IsTrue}
 use Rattle.std.specs.List.{find}
 use Rattle.std.specs.Option.{option_map_or, option_and_then}
 use Rattle.std.specs.FinMap.{FinMap, get, contains_key, len}
-use Rattle.base.specs.Names.{name_cmp, same_name, parent_of, root_name}
+use Rattle.base.specs.Names.{name_cmp, same_name, parent_of, is_descendant, root_name}
 use Rattle.base.specs.declared.name.member.Member.{Member}
 use Rattle.model.specs.World.{FileSystem, Snap}
 
 -- a world's file systems, by their names (On-Disk Specification, chapter 4)
 abbrev pub FileSystems : Type 0
 FileSystems = FinMap name_cmp FileSystem
+
+-- the second name is the first or a descendant's (zfs(8))
+abbrev pub is_in_family : List ℕ → List ℕ → Bool
+is_in_family ancestor name = same_name name ancestor || is_descendant ancestor name
 
 -- the most file systems of a pool, the root among them (profile)
 abbrev pub file_system_limit : ℕ

@@ -188,6 +188,14 @@ pub enum Request {
     Promote {
         name: DsName,
     },
+    /// Renames a file system, and with it all below it (zfs-rename(8)). Snapshots and bookmarks go with their file systems; contents, limits and
+    /// origins stay. The reply is Done. It is refused with NoDataset where no file system has the name, IsRoot for the root, Exists where there is a
+    /// file system of the new name, NoParent where the parent of the new name doesn't exist, BadName where the new name is of a descendant or a
+    /// whole name would have more than 255 bytes, and then Quota, RefQuota or NoSpace as a write is: the first of these that applies, or NoMemory.
+    Rename {
+        name: DsName,
+        to: DsName,
+    },
     /// Adds a tag to a snapshot, which keeps it from being destroyed until the tag is released (zfs-hold(8)). The reply is Done. It is refused
     /// with NotSnapshot where the target is not a snapshot's name, NoDataset where no snapshot has it, Deferred where the snapshot's destroy is
     /// deferred, TagExists where it has the tag already, TooMany where it has 256 tags: the first of these that applies, or NoMemory.
@@ -378,6 +386,9 @@ impl Request {
                 t.same(u) && a.same(b)
             }
             (Request::Promote { name: a }, Request::Promote { name: b }) => a.same(b),
+            (Request::Rename { name: a, to: b }, Request::Rename { name: c, to: d }) => {
+                a.same(c) && b.same(d)
+            }
             (Request::CloseView { view: v }, Request::CloseView { view: w }) => *v == *w,
             (Request::Hold { tag: a, target: t }, Request::Hold { tag: b, target: u }) => {
                 a.same(b) && t.same(u)

@@ -9,7 +9,7 @@ use Rattle.base.specs.declared.refusal.Refusal.TheVariants.{NoMemory}
 use Rattle.base.specs.declared.name.member.Member.{Member}
 use Rattle.base.specs.declared.name.target.Target.{Target}
 use Rattle.zalloc.specs.declared.BlockState.{BlockState}
-use Rattle.model.specs.declared.request.Request.TheVariants.{Snapshot, Promote, Rollback}
+use Rattle.model.specs.declared.request.Request.TheVariants.{Snapshot, Promote, Rename, Rollback}
 use Rattle.model.specs.declared.reply.Reply.TheVariants.{Done, Refused}
 use Rattle.model.specs.World.{World, snaps_of, union_of}
 use Rattle.model.specs.Targets.{guid_limit, snap_limit, has_no_next_group}
@@ -21,15 +21,17 @@ use Rattle.model.specs.requests.Snapshot.{snapshot_names, taking_row, guid_by}
 use Rattle.world.specs.Tables.{Datasets, world_of}
 use Rattle.world.proofs.steps.Takings.{may_take}
 use Rattle.datasets.specs.Snapshots.{taken_of}
+use Rattle.datasets.specs.Renames.{with_names, rename_refusal}
 use Rattle.snap.specs.Requests.{promoted, promote_refusal}
 use Rattle.removals.specs.Edits.{HasLost}
 use Rattle.removals.specs.Requests.{rolled, rollback_refusal}
 use Rattle.snap.specs.Taking.{after_taking}
-use Rattle.steps.specs.Asked.{asked_by_snapshot, asked_by_promote, asked_by_rollback}
+use Rattle.steps.specs.Asked.{asked_by_snapshot, asked_by_promote, asked_by_rename, asked_by_rollback}
 use Rattle.steps.specs.Edits.{datasets_of, put, lose, CanPut, CanLose, StaysUnlimited}
 use Rattle.steps.specs.Limiting.{IsOver}
 use Rattle.steps.proofs.numbers.Freeing.{joined_losses}
 use Rattle.steps.proofs.requests.Promoting as promoting
+use Rattle.steps.proofs.requests.Renaming as renaming
 use Rattle.steps.proofs.requests.Rolling as rolling
 use Rattle.steps.proofs.requests.Snapping as snaps
 use Rattle.pool.specs.Pools.{IsSound}
@@ -133,6 +135,29 @@ module _ (s : State) (numbers : List BlockState) (sound : IsSound s numbers) whe
 
       pub promote_done : Step s (Promote name) Done (put s to 0)
       promote_done = subst (λ t. Step s (Promote name) Done (put s t 0)) (sym is) (promoting.promote_done_within s name none sound.steady (promoted_row None fits))
+
+  -- ---- a rename
+
+  module _ (from name : List ℕ) (none : rename_refusal (datasets_of s) from name ≡ None) (to : Datasets) (is : to ≡ with_names (datasets_of s) from name) where
+    renamed_systems : (asked_by_rename s from name).now.file_systems ≡ to.file_systems
+    renamed_systems = ap (λ (t : Datasets). t.file_systems) (sym is)
+
+    pub rename_few : set.len (union_of (world_of to)) < 2 ^ 32
+    rename_few = few_unasked s numbers sound (asked_by_rename s from name) (renaming.rename_unasked s from name none sound.steady) to renamed_systems
+
+    renamed_row : (r : Option Refusal) → IsOver s to (set.len s.now.freeing) r → first_of (limit_row (asked_by_rename s from name)) ≡ r
+    renamed_row r over = over_is s numbers sound (asked_by_rename s from name) (renaming.rename_unasked s from name none sound.steady) to renamed_systems (set.len s.now.freeing) refl r over
+        (λ bare. renaming.rename_fits s from name none sound.steady bare numbers sound.states)
+
+    pub rename_over : (why : Refusal) → IsOver s to (set.len s.now.freeing) (Some why) → Step s (Rename from name) (Refused why) s
+    rename_over why over = renaming.rename_refused_by_limit s from name none why (renamed_row (Some why) over)
+
+    module _ (fits : IsOver s to (set.len s.now.freeing) None) where
+      pub rename_can : CanPut s to 0
+      rename_can = subst (λ t. CanPut s t 0) (sym is) (renaming.rename_can_within s from name none sound.steady (renamed_row None fits))
+
+      pub rename_done : Step s (Rename from name) Done (put s to 0)
+      rename_done = subst (λ t. Step s (Rename from name) Done (put s t 0)) (sym is) (renaming.rename_done_within s from name none sound.steady (renamed_row None fits))
 
   -- ---- a rollback
 

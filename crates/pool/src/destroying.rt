@@ -89,8 +89,8 @@ impl Keep {
     }
 }
 
-// Whether a destroy of the target is certain to change no file system but the target's: the destroy isn't recursive, and the target isn't several
-// snapshots or a clone, since with a clone its deferred origin may be destroyed. It costs the logarithm of the number of file systems.
+// Whether a destroy of the target is certain to change no file system but those that the target names: the destroy isn't recursive, and the target
+// isn't a clone, since with a clone its deferred origin may be destroyed. It costs the logarithm of the number of file systems.
 fn is_alone(table: &Table, target: &DestroyTarget, recursive: bool) -> bool
     ensures one { result ≡ true → recursive ≡ false }
     ensures origin { result ≡ true → (name : List ℕ) → target.now ≡ DestroyTarget.FileSystem name → has_deferred_origin table.now name ≡ false }

@@ -33,16 +33,17 @@ pub(crate) fn kind_of(request: &Request) -> Kind
         | Request::Holds { .. }
         | Request::Send { .. } => Kind::Question,
         Request::OpenView { .. } => Kind::View,
-        Request::Snapshot { .. } | Request::Rollback { .. } | Request::Promote { .. } => {
-            Kind::Asking
-        }
+        Request::Snapshot { .. }
+        | Request::Rollback { .. }
+        | Request::Promote { .. }
+        | Request::Rename { .. } => Kind::Asking,
         _ => Kind::Change,
     }
 }
 
-/// The file system that a write, a punch, a freed object, a rollback, a clone, a destroy, a hold, a release, a bookmark, a promote or a new limit
-/// names first; where that is a snapshot or a bookmark, the file system that it belongs to. None for every other request, and for a destroy of an
-/// empty list. Constant time.
+/// The file system that a write, a punch, a freed object, a rollback, a clone, a destroy, a hold, a release, a bookmark, a promote, a rename or a
+/// new limit names first; where that is a snapshot or a bookmark, the file system that it belongs to. None for every other request, and for a
+/// destroy of an empty list. Constant time.
 pub(crate) fn changed_name(request: &Request) -> Option<&DsName> {
     match request {
         Request::Write { target, .. }
@@ -53,7 +54,9 @@ pub(crate) fn changed_name(request: &Request) -> Option<&DsName> {
         | Request::Hold { target, .. }
         | Request::Release { target, .. }
         | Request::Bookmark { target, .. } => Some(file_system_of(target)),
-        Request::Promote { name } | Request::Set { name, .. } => Some(name),
+        Request::Promote { name } | Request::Rename { name, .. } | Request::Set { name, .. } => {
+            Some(name)
+        }
         Request::Destroy { target, .. } => first_file_system(target),
         _ => None,
     }

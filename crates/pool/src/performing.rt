@@ -68,6 +68,7 @@ impl Keep {
             }
             Request::Clone { target, name } => self.clone_snapshot(world, target, name),
             Request::Promote { name } => self.promote(alloc, world, name, &mut meters.segments),
+            Request::Rename { name, to } => self.rename(alloc, world, name, to),
             Request::Destroy {
                 target,
                 recursive,

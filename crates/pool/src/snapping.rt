@@ -1,4 +1,4 @@
-//! Creations and snapshots, and what stands on snapshots: clones, promotes, holds and bookmarks.
+//! Creations, renames and snapshots, and what stands on snapshots: clones, promotes, holds and bookmarks.
 ghost use Rattle.std.specs.Prelude.{◌≡◌, ◌≤◌, None, OnErr};
 ghost use Rattle.model.specs.declared.request.Request.{Request};
 ghost use Rattle.pool.specs.Pools.{state_in, IsHeld};
@@ -11,7 +11,7 @@ use base::meter::SegMeter;
 use base::name::{DsName, MarkName, Tag, Target};
 use marks::{bookmark, hold, release};
 use model::snap_names::SnapNames;
-use snap::clones::{clone_snapshot, promote};
+use snap::clones::{clone_snapshot, promote, rename};
 use snap::{Guids, snapshot};
 use std::alloc::Global;
 use steps::recount;
@@ -89,6 +89,26 @@ impl Keep {
         ensures never_lower { segments.old ≤ segments.new }
     {
         promote(alloc, &mut world.table, name, segments)?;
+        match self.over(world) {
+            Some(refusal) => Err(refusal),
+            None => Ok(Effect::Nothing),
+        }
+    }
+
+    /// Renames the file system of this name with all below it, then checks the limits of the changed world. At `Err` the world is unchanged if it
+    /// has no ledger; a world with a ledger may have changed, and the caller discards it. It costs what `snap::clones::rename` does.
+    pub(crate) fn rename(
+        &self,
+        alloc: Global,
+        world: &mut World,
+        name: &DsName,
+        to: &DsName,
+    ) -> Performed<'static>
+        requires { IsHeld self.now world.old }
+        ensures performed { IsPerformed (state_in self.now world.old) self.now.numbers.present world.new (Request.Rename name.now to.now) result }
+        ensures unchanged { OnErr result (world.old.ledger ≡ None → world.new ≡ world.old) }
+    {
+        rename(alloc, &mut world.table, name, to)?;
         match self.over(world) {
             Some(refusal) => Err(refusal),
             None => Ok(Effect::Nothing),

@@ -1,5 +1,7 @@
 //! Script lines, asked of a pool in one of its ways.
 use crate::destroys::destroy_of;
+use crate::renames::rename_of;
+use base::refusal::Refusal;
 use model::reply::Reply;
 use model::request::Request;
 use pool::Pool;
@@ -79,25 +81,25 @@ impl AskedPool {
         }
     }
 
-    /// Asks a line in a way, and tells its reply. A line that begins with `destroys` is a destroy of several snapshots.
+    /// Asks a line in a way, and tells its reply. A line that begins with `destroys` is a destroy of several snapshots, and one that begins with
+    /// `rename` is a rename.
     pub fn ask_line(&mut self, way: Way, line: &str, told: &mut Vec<u8>) -> Result<(), AllocError> {
-        let (word, words) = parted(line);
-        if word == "destroys" {
-            return self.ask_destroys(way, words, told);
-        }
         self.way = way;
-        ask(self.alloc, self, line, told)
+        let (word, words) = parted(line);
+        match word {
+            "destroys" => self.ask_request(destroy_of(self.alloc, words), told),
+            "rename" => self.ask_request(rename_of(self.alloc, words), told),
+            _ => ask(self.alloc, self, line, told),
+        }
     }
 
-    /// Asks a destroy of the snapshots that the words name in a way, and tells its reply.
-    pub fn ask_destroys(
+    /// Asks a request, and tells its reply, or why the words of a row say none.
+    fn ask_request(
         &mut self,
-        way: Way,
-        words: &str,
+        request: Result<Request, Refusal>,
         told: &mut Vec<u8>,
     ) -> Result<(), AllocError> {
-        self.way = way;
-        match destroy_of(self.alloc, words) {
+        match request {
             Ok(request) => {
                 let mut reply = Reply::Done;
                 self.ask(request, &mut reply);

@@ -41,6 +41,7 @@ impl Pools {
             "make" => self.make(place, rest, told),
             "alike" => self.alike(told),
             "same" => self.same(rest, told),
+            "destroys" | "rename" => self.asked(place, "apply", row, told),
             _ => self.asked(place, word, rest, told),
         }
     }
@@ -108,7 +109,6 @@ impl Pools {
             "two" => asked.ask_line(Way::InTwo, rest, told),
             "left" => asked.ask_line(Way::Left, rest, told),
             "list" => asked.run_list(rest, told),
-            "destroys" => asked.ask_destroys(Way::AtOnce, rest, told),
             "take" => take(alloc, &mut asked.pool, rest, told),
             "stops" => tell_stops(alloc, &mut asked.pool, rest, told),
             "walks" => tell_walks(alloc, &asked.pool, rest == "last", told),

@@ -33,7 +33,7 @@ use Rattle.removals.proofs.Clones.{outside_is}
 use Rattle.removals.proofs.Deferring.{marked_by, by_one, deferred_none, deferred_twice, deferred_gone}
 use Rattle.removals.proofs.Identified.{neither, one_of_more}
 use Rattle.removals.proofs.Needed.{any_alike, is_held_at, held_at, named_there, found_there, system_at}
-use Rattle.removals.proofs.Seen.{any_value}
+use Rattle.snap.proofs.Shared.{any_value}
 use Rattle.removals.proofs.Swept.{same_clones}
 
 -- ---- what is found

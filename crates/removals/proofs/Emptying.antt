@@ -12,7 +12,7 @@ use Rattle.base.specs.Surveys.{IsIn}
 use Rattle.model.specs.World.{FileSystem, Snap, SnapId, id_of, empty_file_system, union_of}
 use Rattle.datasets.specs.Origins.{origin_group}
 use Rattle.datasets.specs.Rows.{Entry, snaps_at}
-use Rattle.snap.specs.Taking.{is_in_family}
+use Rattle.model.specs.Hierarchy.{is_in_family}
 use Rattle.snap.proofs.Rests.{next_left, none_left}
 use Rattle.world.specs.Sets.{IsSubset, AreDisjoint}
 use Rattle.world.specs.Shapes.{Name, name_order}

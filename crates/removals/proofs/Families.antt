@@ -1,16 +1,15 @@
 -- Names of one family: a child's is of its parent's family, and comes after its parent's.
-use Rattle.std.proofs.Common.{◌≡◌, ℕ, Bool, true, false, cond, ◌&&◌, T, List, [], ◌∷◌, ◌++◌, Option, Some, None, is_lt, refl, sym, ap, subst, ◌∙◌, true≢false, inl, inr, ⊎_elim, length, take, drop, append_assoc, arith}
+use Rattle.std.proofs.Common.{◌≡◌, ℕ, Bool, true, false, cond, ◌&&◌, ◌||◌, T, List, [], ◌∷◌, ◌++◌, Option, Some, None, is_lt, refl, sym, ap, subst, ◌∙◌, inl, inr, ⊎_elim, length, drop, arith}
 use Rattle.std.specs.Prelude.{◌==◌}
 use Rattle.std.specs.Ordering.{nat_cmp}
-use Rattle.std.specs.Cmp.Lexicographic.{pointwise}
 use Rattle.std.specs.FinMap.Entries.{is_sorted, below_all}
 use Rattle.std.specs.declared.cmp.Ordering.TheVariants.{Equal, Greater}
 use Rattle.std.proofs.lemmas.Bool.{eqb-true}
 use Rattle.base.specs.Surveys.{IsIn}
-use Rattle.base.specs.Names.{name_cmp, slash, parent_of, before_slash}
+use Rattle.base.specs.Names.{name_cmp, slash, parent_of, before_slash, same_name, is_descendant}
 use Rattle.datasets.specs.Rows.{Entry}
-use Rattle.snap.specs.Taking.{is_in_family}
-use Rattle.snap.proofs.Families.{ends_component, begins, begins_not, joined, parted}
+use Rattle.model.specs.Hierarchy.{is_in_family}
+use Rattle.world.proofs.lists.Names.{descendant_by_parent, goes_on, behind}
 
 no_some : {A : Type 0} (a : A) → None ≡ Some a → ⊥
 no_some a e = cc
@@ -34,23 +33,16 @@ parent_parts (b ∷ bs) p e = by_rest (λ front is. parent_parts bs front is) (p
         (r.0, ap (λ l. b ∷ l) r.1 ∙ ap (λ l. l ++ slash ∷ r.0) (one_some (b ∷ front) p k))
 
 -- a name of a family goes on after the ancestor's with a slash, or is it
-pub family_parts : (a n : List ℕ) → is_in_family a n ≡ true → (rest : List ℕ) × (n ≡ a ++ rest) × (ends_component rest ≡ true)
-family_parts a n e = by_test (pointwise ◌==◌ (take (length a) n) a) refl
-  where
-    by_test : (b : Bool) → pointwise ◌==◌ (take (length a) n) a ≡ b → (rest : List ℕ) × (n ≡ a ++ rest) × (ends_component rest ≡ true)
-    by_test true k = (drop (length a) n, parted a n k, sym (begins a n k) ∙ e)
-    by_test false k = absurd (true≢false (sym e ∙ begins_not a n k))
+pub family_parts : (a n : List ℕ) → is_in_family a n ≡ true → (rest : List ℕ) × (n ≡ a ++ rest) × (goes_on rest ≡ true)
+family_parts a n e = let k = behind a n e in (drop (length a) n, k.0, k.1)
 
 -- a child is of each family that its parent is of
 pub child_in_family : (a p q : List ℕ) → is_in_family a p ≡ true → parent_of q ≡ Some p → is_in_family a q ≡ true
-child_in_family a p q within e =
-    let f = family_parts a p within in
-    let r = parent_parts q p e in
-    ap (is_in_family a) (r.1 ∙ ap (λ l. l ++ slash ∷ r.0) f.1 ∙ append_assoc a f.0 (slash ∷ r.0)) ∙ joined a (f.0 ++ slash ∷ r.0) ∙ goes_on f.0 r.0 f.2
+child_in_family a p q within e = or_right (same_name q a) (is_descendant a q) (descendant_by_parent a q p e ∙ within)
   where
-    goes_on : (xs rest : List ℕ) → ends_component xs ≡ true → ends_component (xs ++ slash ∷ rest) ≡ true
-    goes_on [] rest h = refl
-    goes_on (x ∷ xs) rest h = h
+    or_right : (x y : Bool) → y ≡ true → (x || y) ≡ true
+    or_right true y k = refl
+    or_right false y k = k
 
 longer_after : (p : List ℕ) (x : ℕ) (rest : List ℕ) → name_cmp (p ++ x ∷ rest) p ≡ Greater
 longer_after [] x rest = refl

@@ -12,8 +12,8 @@ use Rattle.std.specs.List.{list_any}
 use Rattle.world.proofs.removals.Families.{from_retained}
 use Rattle.model.specs.World.{union_of}
 use Rattle.datasets.specs.Rows.{Entry}
-use Rattle.snap.specs.Taking.{is_in_family}
-use Rattle.snap.proofs.Families.{ends_component}
+use Rattle.model.specs.Hierarchy.{is_in_family}
+use Rattle.world.proofs.lists.Names.{goes_on}
 use Rattle.world.specs.Sets.{IsSubset, AreDisjoint}
 use Rattle.world.specs.Worlds.{AreFileSystems}
 use Rattle.world.specs.Tables.{Datasets, CanRemoveFileSystem, world_of, without_system, lost_between}
@@ -41,9 +41,9 @@ lost_gone (Err e) t u freeing after lost good apart name to is joined = tt
 pub root_alone : (name : List ℕ) → is_in_family name root_name ≡ true → name ≡ root_name
 root_alone name e = let f = family_parts name root_name e in by_parts name f.0 f.1 f.2
   where
-    by_parts : (a rest : List ℕ) → root_name ≡ a ++ rest → ends_component rest ≡ true → a ≡ root_name
+    by_parts : (a rest : List ℕ) → root_name ≡ a ++ rest → goes_on rest ≡ true → a ≡ root_name
     by_parts [] [] is h = absurd cc
-    by_parts [] (x ∷ xs) is h = absurd (true≢false (sym h ∙ ap ends_component (sym is)))
+    by_parts [] (x ∷ xs) is h = absurd (true≢false (sym h ∙ ap goes_on (sym is)))
     by_parts (x ∷ []) rest is h = by_rest x rest is
       where
         by_rest : (x : ℕ) (rest : List ℕ) → root_name ≡ x ∷ rest → x ∷ [] ≡ root_name

@@ -10,7 +10,7 @@ use Rattle.model.specs.World.{FileSystem, Snap, SnapId, id_of, same_id, snap_at,
 use Rattle.model.specs.requests.Destroy.{snaps_within}
 use Rattle.model.specs.requests.Rollback.{has_clone_outside}
 use Rattle.datasets.specs.Rows.{Entry}
-use Rattle.snap.specs.Taking.{is_in_family}
+use Rattle.model.specs.Hierarchy.{is_in_family}
 use Rattle.world.specs.Shapes.{Name, name_order}
 use Rattle.world.specs.Worlds.{AreFileSystems}
 use Rattle.world.specs.Tables.{Datasets, world_of}

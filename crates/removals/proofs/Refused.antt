@@ -19,7 +19,7 @@ use Rattle.world.specs.Shapes.{name_order}
 use Rattle.world.specs.Tables.{Datasets, CanRemoveFileSystem, world_of}
 use Rattle.world.specs.Worlds.{AreFileSystems}
 use Rattle.world.proofs.lineage.Bridge.{start, rising, rising_above, from_entries}
-use Rattle.snap.specs.Taking.{is_in_family}
+use Rattle.model.specs.Hierarchy.{is_in_family}
 use Rattle.world.proofs.lists.Maps.{some_of, entry_of, at_entry}
 use Rattle.world.proofs.lists.Listed.{map_in}
 use Rattle.world.proofs.lists.Finding.{in_filter, filter_all, name_itself}

@@ -56,11 +56,6 @@ any_here p (z ∷ xs) x ys e = or_right (p z) (list_any p (xs ++ x ∷ ys)) (any
     or_right true b e = refl
     or_right false b e = e
 
--- of those that they stand for
-pub any_value : {A B : Type 0} (value : A → B) (p : B → Bool) (xs : List A) → list_any (λ x. p (value x)) xs ≡ list_any p (map value xs)
-any_value value p [] = refl
-any_value value p (x ∷ xs) = ap (λ b. p (value x) || b) (any_value value p xs)
-
 -- ---- of later groups
 
 pub any_later : (p : SnapId → Bool) (group : ℕ) (us : List Snap) → list_any p (map id_of (filter (λ (u : Snap). nat_lt group u.group) us)) ≡ list_any (λ (u : Snap). nat_lt group u.group && p (id_of u)) us

@@ -16,7 +16,7 @@ use Rattle.world.proofs.lists.Finding.{one_name, name_itself, in_either}
 use Rattle.world.specs.Usage.{IsEntry}
 use Rattle.world.proofs.lineage.Bridge.{from_entries}
 use Rattle.world.proofs.removals.Families.{retained, from_retained}
-use Rattle.snap.specs.Taking.{is_in_family}
+use Rattle.model.specs.Hierarchy.{is_in_family}
 use Rattle.removals.specs.Requests.{without_family}
 use Rattle.removals.proofs.Families.{child_in_family, child_after, before_there, below_there}
 

@@ -10,7 +10,7 @@ use Rattle.model.specs.World.{FileSystem, Snap, SnapId, id_of, empty_file_system
 use Rattle.model.specs.State.{Views}
 use Rattle.model.specs.Edits.{with_file_systems}
 use Rattle.datasets.specs.Rows.{Entry}
-use Rattle.snap.specs.Taking.{is_in_family}
+use Rattle.model.specs.Hierarchy.{is_in_family}
 use Rattle.world.specs.Tables.{Datasets, world_of, without_snap}
 use Rattle.removals.specs.Needs.{is_kept, is_held_after}
 

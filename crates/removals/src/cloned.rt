@@ -4,14 +4,13 @@ ghost use Rattle.std.specs.List.{list_any};
 ghost use Rattle.std.specs.FinMap.{entries};
 ghost use Rattle.datasets.specs.Rows.{entry_in};
 ghost use Rattle.datasets.specs.CloneNames.{name_of};
-ghost use Rattle.snap.specs.Taking.{is_in_family};
+ghost use Rattle.model.specs.Hierarchy.{is_in_family};
 ghost use Rattle.removals.specs.Families.{is_cloned_outside, is_outside_clone};
 ghost use Rattle.removals.specs.Needs.{has_clone_and_is_later};
 
 use base::name::DsName;
 use base::number::Group;
-use datasets::{CloneName, FileSystem, Snapshot, Table};
-use snap::is_in_family;
+use datasets::{CloneName, FileSystem, Snapshot, Table, is_in_family};
 use std::sync::Arc;
 
 /// Whether one of this file system's snapshots of later groups has a clone in the table. It costs the number of its snapshots, and for each

@@ -7,7 +7,7 @@ ghost use Rattle.base.specs.declared.refusal.Refusal.{Refusal};
 ghost use Rattle.datasets.specs.Origins.{origin_group};
 ghost use Rattle.datasets.specs.Rows.{entry_of, snaps_at};
 ghost use Rattle.model.specs.World.{empty_file_system, union_of};
-ghost use Rattle.snap.specs.Taking.{is_in_family};
+ghost use Rattle.model.specs.Hierarchy.{is_in_family};
 ghost use Rattle.world.specs.Sets.{AreDisjoint};
 ghost use Rattle.world.specs.Tables.{world_of, with_system};
 ghost use Rattle.removals.specs.Edits.{HasLost};
@@ -19,8 +19,7 @@ use base::meter::SegMeter;
 use base::name::DsName;
 use base::number::Group;
 use base::refusal::Refusal;
-use datasets::{FileSystem, Table};
-use snap::is_in_family;
+use datasets::{FileSystem, Table, is_in_family};
 use std::alloc::Global;
 
 // The creation group of a file system's origin, and 0 where it has none. Constant time.

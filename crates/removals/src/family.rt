@@ -17,9 +17,8 @@ use crate::working_copy::WorkingCopy;
 use base::meter::SegMeter;
 use base::name::DsName;
 use base::refusal::Refusal;
-use datasets::{FileSystem, Table};
+use datasets::{FileSystem, Table, is_in_family};
 use destroyer::Freeing;
-use snap::is_in_family;
 use std::alloc::Global;
 use views::Views;
 

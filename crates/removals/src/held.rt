@@ -3,13 +3,12 @@ ghost use Rattle.std.specs.Prelude.{◌≡◌, ◌&&◌};
 ghost use Rattle.std.specs.List.{list_any};
 ghost use Rattle.std.specs.FinMap.{entries};
 ghost use Rattle.datasets.specs.Rows.{entry_in};
-ghost use Rattle.snap.specs.Taking.{is_in_family};
+ghost use Rattle.model.specs.Hierarchy.{is_in_family};
 ghost use Rattle.removals.specs.Needs.{is_held, is_held_after};
 
 use base::name::DsName;
 use base::number::Group;
-use datasets::{FileSystem, Snapshot, Table};
-use snap::is_in_family;
+use datasets::{FileSystem, Snapshot, Table, is_in_family};
 use std::sync::Arc;
 use views::Views;
 

@@ -1,4 +1,5 @@
 pub mod Rests
+pub mod Shared
 pub mod Families
 pub mod Twice
 pub mod Rooms
@@ -7,3 +8,4 @@ pub mod Taken
 pub mod Yielded
 pub mod Cloned
 pub mod Promoted
+pub mod Renamed

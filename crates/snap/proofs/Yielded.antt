@@ -40,8 +40,6 @@ gt_is a g = ⊎_elim
     (cases_lt a g))
     (cases_lt g a)
 
--- ---- those of a group up to this one
-
 any_joined : (p : Snap → Bool) (xs ys : List Snap) → list_any p xs ≡ false → list_any p ys ≡ false → list_any p (xs ++ ys) ≡ false
 any_joined p [] ys none e = e
 any_joined p (x ∷ xs) ys none e = by_test (p x) none (λ k. any_joined p xs ys k e)
@@ -57,6 +55,28 @@ any_here p (z ∷ xs) x ys e = or_right (p z) (list_any p (xs ++ x ∷ ys)) (any
     or_right : (a b : Bool) → b ≡ true → (a || b) ≡ true
     or_right true b e = refl
     or_right false b e = e
+
+-- ---- those that pass a test
+
+module _ (p : Snap → Bool) where
+  -- one that is yielded does
+  pub one_passes : (us : List Snap) (xs : List (Bor Kept)) (x : Kept) (ys : List Kept) → us ≡ snaps_in (map (λ (x : Bor Kept). x.now) xs ++ x ∷ ys) → p x.snapshot ≡ true → list_any p us ≡ true
+  one_passes us xs x ys is e =
+      ap (list_any p) (is ∙ map-append {B = Snap} (λ (k : Kept). k.snapshot) (map (λ (x : Bor Kept). x.now) xs) (x ∷ ys))
+      ∙ any_here p (snaps_in (map (λ (x : Bor Kept). x.now) xs)) x.snapshot (snaps_in ys) e
+
+  -- none did in the whole walk
+  pub none_passes : (us : List Snap) (xs : List (Bor Kept)) → list_any p (map (λ (x : Bor Kept). x.now.snapshot) xs) ≡ false → us ≡ snaps_in (map (λ (x : Bor Kept). x.now) xs) → list_any p us ≡ false
+  none_passes us xs none is = ap (list_any p) (is ∙ sym (snaps_yielded xs)) ∙ none
+
+  -- the next one doesn't
+  pub next_fails : (xs : List (Bor Kept)) → list_any p (map (λ (x : Bor Kept). x.now.snapshot) xs) ≡ false → (x : Bor Kept) → p x.now.snapshot ≡ false
+      → list_any p (map (λ (x : Bor Kept). x.now.snapshot) (xs ++ x ∷ [])) ≡ false
+  next_fails xs none x e =
+      ap (list_any p) (map-append {B = Snap} (λ (x : Bor Kept). x.now.snapshot) xs (x ∷ []))
+      ∙ any_joined p (map (λ (x : Bor Kept). x.now.snapshot) xs) (x.now.snapshot ∷ []) none (ap (λ b. b || false) e)
+
+-- ---- those of a group up to this one
 
 module _ (p : Snap → Bool) (group : ℕ) where
   -- of a group up to this one, and it passes the test
@@ -119,10 +139,7 @@ module _ (p : Snap → Bool) (group : ℕ) where
 
     -- the next one doesn't pass the test
     pub still_none : (x : Bor Kept) → p x.now.snapshot ≡ false → list_any is_early (map (λ (x : Bor Kept). x.now.snapshot) (xs ++ x ∷ [])) ≡ false
-    still_none x e =
-        ap (list_any is_early) (map-append {B = Snap} (λ (x : Bor Kept). x.now.snapshot) xs (x ∷ []))
-        ∙ any_joined is_early (map (λ (x : Bor Kept). x.now.snapshot) xs) (x.now.snapshot ∷ []) none
-        (ap (λ b. b || false) (and_false (nat_le x.now.snapshot.group group) (p x.now.snapshot) e))
+    still_none x e = next_fails is_early xs none x (and_false (nat_le x.now.snapshot.group group) (p x.now.snapshot) e)
       where
         and_false : (a b : Bool) → b ≡ false → (a && b) ≡ false
         and_false true b e = e

@@ -4,7 +4,7 @@ use Rattle.std.specs.List.{list_any}
 use Rattle.base.specs.declared.refusal.Refusal.{Refusal}
 use Rattle.base.specs.declared.refusal.Refusal.TheVariants.{BadName, Exists, TooMany}
 use Rattle.base.specs.declared.name.member.Member.{Member}
-use Rattle.base.specs.Names.{whole_length, same_name, is_descendant}
+use Rattle.base.specs.Names.{whole_length}
 use Rattle.model.specs.World.{World, snap_named}
 use Rattle.model.specs.Targets.{name_limit}
 use Rattle.model.specs.Rule.{Row, first_of}
@@ -15,10 +15,6 @@ use Rattle.datasets.specs.Snapshots.{taken_of}
 -- what the names of a request stand for in a table (zfs-snapshot(8), -r)
 abbrev pub all_of : Datasets → List Member → Bool → List Member
 all_of t names recursive = snapshot_names (world_of t) names recursive
-
--- a file system of this name is the other one or a descendant of it (zfs-snapshot(8), -r)
-abbrev pub is_in_family : List ℕ → List ℕ → Bool
-is_in_family ancestor name = same_name name ancestor || is_descendant ancestor name
 
 -- what refuses snapshots of all these names, whose file systems are there (zfs-snapshot(8); numbers are profile)
 abbrev pub naming_row : World → ℕ → List Member → Row

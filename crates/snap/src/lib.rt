@@ -11,11 +11,12 @@ ghost use Rattle.snap.specs.Taking.{all_of, refusal_of, after_taking};
 
 mod check;
 pub mod clones;
+mod lengths;
 mod named;
 mod take;
 
 use crate::check::{any_missing, check};
-pub use crate::named::{Named, expand, is_in_family};
+pub use crate::named::{Named, expand};
 use crate::take::{take_all, take_one};
 use base::name::SnapName;
 use base::refusal::Refusal;

@@ -5,11 +5,13 @@ ghost use Rattle.std.specs.List.{filter};
 ghost use Rattle.base.specs.Names.{whole_length};
 ghost use Rattle.model.specs.Targets.{name_limit};
 ghost use Rattle.datasets.specs.Rows.{Row};
-ghost use Rattle.snap.specs.Taking.{all_of, is_in_family};
+ghost use Rattle.snap.specs.Taking.{all_of};
+ghost use Rattle.model.specs.Hierarchy.{is_in_family};
 
-use base::name::{Component, DsName, Member, NAME_LIMIT, SnapName};
+use crate::lengths::is_long;
+use base::name::{Component, DsName, Member, SnapName};
 use base::refusal::Refusal;
-use datasets::{FileSystem, Table};
+use datasets::{FileSystem, Table, is_in_family};
 use std::alloc::Global;
 use std::marker::Model;
 use std::sync::Arc;
@@ -34,20 +36,7 @@ impl<'a> Named<'a> {
     pub(crate) fn is_too_long(&self) -> bool
         ensures { result ≡ nat_lt name_limit (whole_length self.now) }
     {
-        let file_system = self.file_system.as_bytes().len();
-        let component = self.component.as_bytes().len();
-        file_system >= NAME_LIMIT || component >= NAME_LIMIT - file_system
-    }
-}
-
-/// Whether the name is the ancestor's own or a descendant's (zfs-destroy(8), -r). It costs the length of the ancestor's name.
-pub fn is_in_family(ancestor: &[u8], name: &[u8]) -> bool
-    ensures { result ≡ is_in_family ancestor.now name.now }
-{
-    match name.strip_prefix(ancestor) {
-        Some([]) => true,
-        Some([b, ..]) => *b == b'/',
-        None => false,
+        is_long(self.file_system.as_bytes().len(), self.component)
     }
 }
 

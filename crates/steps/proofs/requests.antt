@@ -15,6 +15,7 @@ pub mod Destroying
 pub mod Slicing
 pub mod Cloning
 pub mod Promoting
+pub mod Renaming
 pub mod Labelling
 pub mod Tagging
 pub mod Holding

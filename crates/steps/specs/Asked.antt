@@ -10,6 +10,7 @@ use Rattle.model.specs.Refusals.{fresh_number}
 use Rattle.model.specs.requests.Snapshot.{snapshot_names, guid_by}
 use Rattle.datasets.specs.Limits.{with_limit_of}
 use Rattle.datasets.specs.Snapshots.{taken_of}
+use Rattle.datasets.specs.Renames.{with_names}
 use Rattle.snap.specs.Requests.{promoted}
 use Rattle.removals.specs.Requests.{rolled}
 use Rattle.steps.specs.Edits.{datasets_of, put, lose}
@@ -26,6 +27,10 @@ asked_by_snapshot s names recursive =
 -- with the clone as the owner of its origin (zfs-promote(8))
 abbrev pub asked_by_promote : State → List ℕ → State
 asked_by_promote s name = put s (promoted (datasets_of s) name) 0
+
+-- with the file system and all below it under another name (zfs-rename(8))
+abbrev pub asked_by_rename : State → List ℕ → List ℕ → State
+asked_by_rename s from to = put s (with_names (datasets_of s) from to) 0
 
 -- with the file system back at the snapshot (zfs-rollback(8))
 abbrev pub asked_by_rollback : State → Target → State

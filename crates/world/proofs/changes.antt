@@ -4,6 +4,7 @@ pub mod Kept
 pub mod Creations
 pub mod Writes
 pub mod Promotions
+pub mod Renames
 pub mod FreshNumbers
 pub mod LiveMaps
 pub mod Plans

@@ -2,6 +2,7 @@ pub mod Deadlists
 pub mod Requests
 pub mod Chains
 pub mod Promotes
+pub mod Relabel
 pub mod Moves
 pub mod Changes
 pub mod Drops

@@ -3,3 +3,4 @@ pub mod Maps
 pub mod SetCounts
 pub mod Listed
 pub mod Finding
+pub mod Names

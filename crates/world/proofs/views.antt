@@ -3,6 +3,7 @@ pub mod ViewedTakes
 pub mod ViewedClones
 pub mod ViewedRequests
 pub mod ViewedReceives
+pub mod ViewedRenames
 pub mod ViewedSteps
 pub mod ViewedRules
 pub mod Runs

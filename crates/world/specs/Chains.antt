@@ -1,7 +1,6 @@
 -- The first world, what a write loses, and removals one after the other.
 use Rattle.std.specs.Prelude.{◌≡◌, ℕ, ◌<◌, [], Some, None}
 use Rattle.std.specs.FinSet.{empty}
-use Rattle.world.specs.Blocks.{after}
 use Rattle.world.specs.Shapes.{Name, Shapes, IsGood}
 
 -- a world with no file system (On-Disk Specification, chapter 4)

@@ -3,7 +3,6 @@ use Rattle.std.specs.Prelude.{◌≡◌}
 use Rattle.std.specs.FinSet.{difference, union}
 use Rattle.world.specs.Sets.{Has, IsSubset, AreDisjoint}
 use Rattle.world.specs.Blocks.{Block, BlockSet}
-use Rattle.world.specs.Space.{datasets}
 
 -- What a removal loses goes into the set on its way out: together they keep the blocks that they had, and stay apart (On-Disk Specification, chapter 4)
 abbrev pub FreeingKeepsReach : Type 0

@@ -2,7 +2,7 @@
 //! ([`Answer::code`](c_api::Answer)), and has that call's contract.
 ghost use Rattle.std.specs.Prelude.{◌≡◌, Some, None};
 ghost use Rattle.c_api.specs.Answers.{Codes};
-ghost use Rattle.c_api.specs.Asking.{asked_create, asked_clone, asked_destroy, asked_destroy_snapshots, asked_promote, asked_rollback, asked_snapshot, asked_bookmark, asked_hold, asked_release, asked_holds};
+ghost use Rattle.c_api.specs.Asking.{asked_create, asked_clone, asked_destroy, asked_destroy_snapshots, asked_promote, asked_rename, asked_rollback, asked_snapshot, asked_bookmark, asked_hold, asked_release, asked_holds};
 ghost use Rattle.c_api.specs.Asking.{asked_punch, asked_free_object, asked_written_since, asked_would_free, mode_at, property_at, pool_property_at, limit_at};
 ghost use Rattle.script.specs.Words.{amount_of_bytes};
 ghost use Rattle.c_api.specs.Calls.{Calls, Creates, Does, Writes, ReadsBlock, TellsNumber, GetsOf, PoolGetsOf, SetsOf, ReceivesOf, Syncs, Slices, OpensView, Lists, NamesPiece, Sends, Answers, RepliesPiece, StreamsPiece, Forgotten};
@@ -268,6 +268,14 @@ pub extern "C" fn yuzgont_promote(alloc: Global, pool: &mut YuzPool, name: &[u8]
     ensures { Codes result (λ answer. Calls (Does (asked_promote name.now)) pool.old.slot.host answer pool.new.slot.host) }
 {
     pool.promote(alloc, name).code()
+}
+
+/// Renames a file system, and with it all below it, as `YuzPool::rename`.
+#[unsafe(no_mangle)]
+pub extern "C" fn yuzgont_rename(alloc: Global, pool: &mut YuzPool, name: &[u8], to: &[u8]) -> i32
+    ensures { Codes result (λ answer. Calls (Does (asked_rename name.now to.now)) pool.old.slot.host answer pool.new.slot.host) }
+{
+    pool.rename(alloc, name, to).code()
 }
 
 /// Rolls back to a snapshot, as `YuzPool::rollback`.

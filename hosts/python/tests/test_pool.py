@@ -177,6 +177,70 @@ class Snapshots(Case):
         late.close()
 
 
+class Renames(Case):
+    def setUp(self):
+        super().setUp()
+        self.pool.create("p/a")
+        self.pool.write("p/a", 0, 0, filled(1))
+        self.pool.snapshot("p/a@s")
+        self.pool.bookmark("p/a@s", "p/a#m")
+        self.pool.create("p/a/x")
+        self.pool.snapshot("p/a/x@u")
+        self.pool.clone("p/a@s", "p/c")
+
+    def test_all_below_goes_with_it(self):
+        self.pool.set("p/a", "quota", 51200)
+        self.pool.hold("kept", "p/a@s")
+        sent, guid = self.pool.send("p/a@s"), self.pool.get("p/a@s", "guid")
+        self.pool.rename("p/a", "p/d")
+        self.assertEqual(self.pool.list(), ["p", "p/c", "p/d", "p/d@s", "p/d#m", "p/d/x", "p/d/x@u"])
+        self.assertEqual(self.pool.get("p/c", "origin"), "p/d@s")
+        self.assertEqual(self.pool.get("p/d@s", "clones"), ["p/c"])
+        self.assertEqual(self.pool.get("p/d", "quota"), 51200)
+        self.assertEqual(self.pool.holds("p/d@s"), ["kept"])
+        self.assertEqual([self.pool.get(name, "guid") for name in ("p/d@s", "p/d#m")], [guid, guid])
+        self.assertEqual(self.pool.read("p/d", 0, 0), filled(1))
+        self.assertEqual(self.pool.send("p/d@s"), sent)
+        self.refused(yuzgont.NoDataset, self.pool.read, "p/a", 0, 0)
+
+    def test_into_another_and_under_its_own_clone(self):
+        self.pool.rename("p/a", "p/c/a")
+        self.assertEqual(self.pool.list(), ["p", "p/c", "p/c/a", "p/c/a@s", "p/c/a#m", "p/c/a/x", "p/c/a/x@u"])
+        self.assertEqual(self.pool.get("p/c", "origin"), "p/c/a@s")
+        self.pool.rename("p/c/a/x", "p/a")
+        self.assertEqual(self.pool.list(), ["p", "p/a", "p/a@u", "p/c", "p/c/a", "p/c/a@s", "p/c/a#m"])
+
+    def test_an_abandon_takes_it_back(self):
+        before = self.told()
+        self.pool.sync()
+        self.pool.rename("p/a", "p/d")
+        self.pool.abandon()
+        self.assertEqual(self.told()[0], before[0])
+
+    def test_what_is_refused(self):
+        self.refused(yuzgont.NoDataset, self.pool.rename, "p/none", "p/c")
+        self.refused(yuzgont.IsRoot, self.pool.rename, "p", "p/c")
+        for name in ("p", "p/c", "p/a", "p/a/x"):
+            self.refused(yuzgont.Exists, self.pool.rename, "p/a", name)
+        for name in ("q", "p/none/a", "p/a/none/y"):
+            self.refused(yuzgont.NoParent, self.pool.rename, "p/a", name)
+        for name in ("p/a/y", "p/a/x/y", "p/" + "l" * 250, "p/d@s", "p/d e", ""):
+            self.refused(yuzgont.BadName, self.pool.rename, "p/a", name)
+        for name in ("p/a@s", "p/a#m", ""):
+            self.refused(yuzgont.BadName, self.pool.rename, name, "p/d")
+        self.assertRaises(TypeError, self.pool.rename, "p/a", b"p/d")
+        self.assertIn("rename p/none p/c", str(self.refused(yuzgont.NoDataset, self.pool.rename, "p/none", "p/c")))
+        self.pool.rename("p/a", "p/" + "l" * 249)
+
+    def test_the_limits_above_the_new_name(self):
+        self.pool.create("p/q")
+        self.pool.set("p/q", "quota", FIRST - BLOCK_SIZE)
+        self.refused(yuzgont.Quota, self.pool.rename, "p/a", "p/q/a")
+        self.pool.set("p/q", "quota", FIRST)
+        self.pool.rename("p/a", "p/q/a")
+        self.assertEqual((self.pool.get("p/q", "used"), self.pool.get("p/q", "available")), (FIRST, 0))
+
+
 class Space(Case):
     def test_limits(self):
         for prop, size in (("quota", 102400), ("refquota", 51200), ("reservation", 20480), ("refreservation", 10240)):

@@ -27,7 +27,7 @@ _REFUSALS = {
     24: ("Modified", "the file system was written to since its newest snapshot"),
     25: ("NoMemory", "the process was refused memory"),
     26: ("NoView", "no such view is open"),
-    27: ("IsRoot", "the pool's root file system cannot be destroyed"),
+    27: ("IsRoot", "the pool's root file system cannot be destroyed or renamed"),
     28: ("BadLine", "the line has no command's shape"),
     29: ("SessionFull", "the session has run as many calls as it was opened for"),
     30: ("TooManySeats", "the session has given all its seats"),

@@ -29,6 +29,7 @@ _PARAMETERS = {
     "punch": (*_BYTES, c_uint32, c_uint32),
     "snapshot": (*_BYTES, c_bool),
     "destroy_snapshots": (*_BYTES, c_bool, c_bool),
+    "rename": (*_BYTES, *_BYTES),
     "get": (*_BYTES, c_uint32, _NUMBER),
     "sync": (_NUMBER,),
     "slice": (c_uint64, _NUMBER),

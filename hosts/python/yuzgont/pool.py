@@ -145,6 +145,12 @@ class Pool:
         spelled = " ".join(_word(name) for name in names).encode()
         self._do("destroy_snapshots", spelled, len(spelled), bool(recursive), bool(deferred), what=f"destroy {spelled.decode()}")
 
+    def rename(self, name, to):
+        """Renames a file system, and with it all below it; their snapshots and bookmarks go with them. The file system above the new name must be
+        there. BadName for a new name below the old one, and where a whole name would have more than 255 bytes."""
+        old, new = _word(name).encode(), _word(to).encode()
+        self._do("rename", old, len(old), new, len(new), what=f"rename {name} {to}")
+
     def list(self):
         """The names of all file systems in byte order, each with its snapshots, oldest first, and then its bookmarks."""
         return self._line("list").split()
@@ -299,7 +305,7 @@ class View:
         self.pool, self.target, self.number, self.is_open = pool, target, number, True
 
     def read(self, object, block):
-        """As `Pool.read` of the snapshot."""
+        """As `Pool.read` of the snapshot, by the name that it had when the view was opened."""
         return self.pool.read(self.target, object, block)
 
     def close(self):

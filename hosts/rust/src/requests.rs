@@ -135,6 +135,12 @@ impl Pool {
         Error::check(unsafe { sys::yuzgont_promote(self.handle(), name.as_ptr(), name.len()) })
     }
 
+    /// Renames a file system, and with it all below it; their snapshots and bookmarks go with them. The file system above the new name must be
+    /// there. `BadName` for a new name below the old one, and where a whole name would have more than 255 bytes.
+    pub fn rename(&mut self, name: &str, to: &str) -> Result<(), Error> {
+        Error::check(unsafe { sys::yuzgont_rename(self.handle(), name.as_ptr(), name.len(), to.as_ptr(), to.len()) })
+    }
+
     /// Makes a file system as its snapshot is; with `later` newer snapshots and bookmarks go.
     pub fn rollback(&mut self, snapshot: &str, later: bool) -> Result<(), Error> {
         Error::check(unsafe { sys::yuzgont_rollback(self.handle(), snapshot.as_ptr(), snapshot.len(), later) })

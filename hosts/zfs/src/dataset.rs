@@ -1,11 +1,11 @@
-//! The datasets of a pool, with what the layer hasn't of them: the names that commands use, times, properties, kinds.
+//! The datasets of a pool, with what the layer hasn't of them: names of snapshots and bookmarks, times, properties, kinds.
 //!
-//! The layer knows a file system by a path of numbers, and a snapshot or bookmark by a component that no other of the pool has. So a name
-//! may have blanks, a rename changes no name of the layer, and a promote moves what is kept of a snapshot with it.
+//! The layer knows a file system by its name (`name::in_layer`), and a snapshot or bookmark by a component that no other of the pool has. So a
+//! snapshot is renamed here alone, and a promote moves what is kept of a snapshot with it.
 
 use crate::name;
 use crate::stream::Partial;
-use std::collections::{BTreeMap, BTreeSet, HashMap};
+use std::collections::{BTreeMap, BTreeSet, HashMap, HashSet};
 use std::fmt;
 use std::ops::Bound;
 use std::rc::Rc;
@@ -35,8 +35,6 @@ pub type Values = BTreeMap<String, String>;
 /// A file system or a volume.
 #[derive(Clone, Debug)]
 pub struct FileSystem {
-    /// Its name in the layer.
-    pub path: String,
     pub kind: Kind,
     pub guid: u64,
     pub creation: i64,
@@ -108,14 +106,6 @@ impl FileSystem {
     /// A value of its own that is a number.
     pub fn number(&self, property: &str) -> Option<u64> {
         self.local.get(property)?.parse().ok()
-    }
-
-    pub fn snapshot_path(&self, snapshot: &Snapshot) -> String {
-        format!("{}@{}", self.path, snapshot.component)
-    }
-
-    pub fn bookmark_path(&self, bookmark: &Bookmark) -> String {
-        format!("{}#{}", self.path, bookmark.component)
     }
 }
 
@@ -209,13 +199,6 @@ impl Tree {
         short(self.next_component)
     }
 
-    /// A path in the layer for a file system below another that is there, and that no other has. It is the shortest.
-    pub fn free_path(&self, above: &str) -> Option<String> {
-        let above = &self.get(above)?.path;
-        let taken: Vec<&str> = self.file_systems.values().filter_map(|it| it.path.strip_prefix(above.as_str())?.strip_prefix('/')).collect();
-        (0..).map(short).find(|number| !taken.contains(&number.as_str())).map(|number| format!("{above}/{number}"))
-    }
-
     pub fn get(&self, name: &str) -> Option<&Rc<FileSystem>> {
         self.file_systems.get(name)
     }
@@ -250,7 +233,7 @@ impl Tree {
         range.take_while(|(below, _)| below.starts_with(&first)).map(|(below, _)| below.clone()).collect()
     }
 
-    /// Gives a file system and all below it other names. The layer knows nothing of it.
+    /// Gives a file system and all below it other names.
     pub fn rename(&mut self, name: &str, new: &str) {
         for below in self.with_below(name) {
             if let Some(file_system) = self.file_systems.remove(&below) {
@@ -273,13 +256,13 @@ impl Tree {
 
     pub fn whole(&self, name: &str) -> Option<Dataset> {
         let base = Rc::clone(self.get(name)?);
-        Some(Dataset { name: name.to_owned(), path: base.path.clone(), base, part: Part::Whole })
+        Some(Dataset { name: name.to_owned(), path: name::in_layer(name), base, part: Part::Whole })
     }
 
     pub fn snapshot_of(&self, name: &str, base: &Rc<FileSystem>, snapshot: &Rc<Snapshot>) -> Dataset {
         Dataset {
             name: format!("{name}@{}", snapshot.name),
-            path: base.snapshot_path(snapshot),
+            path: format!("{}@{}", name::in_layer(name), snapshot.component),
             base: Rc::clone(base),
             part: Part::Snapshot(Rc::clone(snapshot)),
         }
@@ -288,7 +271,7 @@ impl Tree {
     pub fn bookmark_of(&self, name: &str, base: &Rc<FileSystem>, bookmark: &Rc<Bookmark>) -> Dataset {
         Dataset {
             name: format!("{name}#{}", bookmark.name),
-            path: base.bookmark_path(bookmark),
+            path: format!("{}#{}", name::in_layer(name), bookmark.component),
             base: Rc::clone(base),
             part: Part::Bookmark(Rc::clone(bookmark)),
         }
@@ -329,38 +312,37 @@ impl Tree {
 
     /// The name of what the layer calls so.
     pub fn named(&self, path: &str) -> Option<String> {
-        let (name, base) = self.file_systems.iter().find(|(_, it)| it.path == name::base(path))?;
-        if let Some(component) = name::snapshot(path) {
-            return base.snapshots.iter().find(|it| it.component == component).map(|it| format!("{name}@{}", it.name));
+        let name = name::out_of_layer(self.pool(), name::base(path))?;
+        match name::snapshot(path) {
+            Some(component) => self.get(&name)?.snapshots.iter().find(|it| it.component == component).map(|it| format!("{name}@{}", it.name)),
+            None => Some(name),
         }
-        Some(name.clone())
+    }
+
+    /// The root's name, which stands before all others.
+    fn pool(&self) -> &str {
+        self.file_systems.keys().next().map_or("", String::as_str)
     }
 
     /// Brings the tree to what the layer lists: what is gone there goes here, and snapshots stand where they stand there.
     pub fn follow(&mut self, listing: &str) {
         let mut snapshots: HashMap<String, Rc<Snapshot>> = HashMap::new();
         let mut bookmarks: HashMap<String, Vec<Rc<Bookmark>>> = HashMap::new();
-        let mut names: HashMap<String, String> = HashMap::new();
-        for (name, file_system) in &mut self.file_systems {
-            let file_system = Rc::make_mut(file_system);
-            names.insert(file_system.path.clone(), name.clone());
+        for file_system in self.file_systems.values_mut().map(Rc::make_mut) {
             snapshots.extend(file_system.snapshots.drain(..).map(|it| (it.component.clone(), it)));
             for bookmark in file_system.bookmarks.drain(..) {
                 bookmarks.entry(bookmark.component.clone()).or_default().push(bookmark);
             }
         }
-        let mut left: HashMap<&str, String> = HashMap::new();
+        let mut left = HashSet::new();
         for word in listing.split(' ') {
-            let base = name::base(word);
-            let Some(name) = left.get(base).cloned().or_else(|| names.remove(base)) else { continue };
+            let Some(name) = name::out_of_layer(self.pool(), name::base(word)) else { continue };
             let Some(file_system) = self.file_systems.get_mut(&name).map(Rc::make_mut) else { continue };
-            left.insert(base, name);
+            left.insert(name);
             file_system.snapshots.extend(name::snapshot(word).and_then(|component| snapshots.remove(component)));
             file_system.bookmarks.extend(name::bookmark(word).and_then(|component| bookmarks.remove(component)).unwrap_or_default());
         }
-        for name in names.values() {
-            self.file_systems.remove(name);
-        }
+        self.file_systems.retain(|name, _| left.contains(name));
     }
 }
 
@@ -374,9 +356,8 @@ impl Default for Tree {
 mod tests {
     use super::*;
 
-    fn file_system(path: &str) -> FileSystem {
+    fn file_system() -> FileSystem {
         FileSystem {
-            path: path.into(),
             kind: Kind::FileSystem,
             guid: 1,
             creation: 0,
@@ -413,8 +394,8 @@ mod tests {
 
     fn tree() -> Tree {
         let mut tree = Tree::new();
-        for (name, path) in [("tank", "p"), ("tank/a", "p/0"), ("tank/a/b", "p/0/0"), ("tank/a-c", "p/1")] {
-            tree.insert(name.into(), file_system(path));
+        for name in ["tank", "tank/a", "tank/a/b", "tank/a-c"] {
+            tree.insert(name.into(), file_system());
         }
         tree.edit("tank/a").unwrap().snapshots.extend([snapshot("old", "1"), snapshot("new", "2")]);
         tree
@@ -423,9 +404,10 @@ mod tests {
     #[test]
     fn names_and_paths_find_each_other() {
         let tree = tree();
-        assert_eq!(tree.find("tank/a@new").unwrap().path, "p/0@2");
-        assert_eq!(tree.named("p/0@2").as_deref(), Some("tank/a@new"));
-        assert_eq!(tree.named("p/1").as_deref(), Some("tank/a-c"));
+        assert_eq!(tree.find("tank/a@new").unwrap().path, "p/a@2");
+        assert_eq!(tree.named("p/a@2").as_deref(), Some("tank/a@new"));
+        assert_eq!(tree.named("p/a-c").as_deref(), Some("tank/a-c"));
+        assert_eq!((tree.named("-"), tree.named("p/a@3")), (None, None));
         assert!(!tree.has("tank/a@none") && !tree.has("tank/x") && tree.has("tank/a@old"));
     }
 
@@ -434,15 +416,13 @@ mod tests {
         let tree = tree();
         assert_eq!(tree.below("tank/a"), ["tank/a/b"]);
         assert_eq!(tree.children("tank"), ["tank/a", "tank/a-c"]);
-        assert_eq!(tree.free_path("tank").as_deref(), Some("p/2"));
-        assert_eq!(tree.free_path("tank/a").as_deref(), Some("p/0/1"));
     }
 
     #[test]
     fn the_tree_follows_a_promote_and_a_destroy() {
         let mut tree = tree();
         let before = tree.clone();
-        tree.follow("p p/0 p/1 p/1@1 p/1@2");
+        tree.follow("p p/a p/a-c p/a-c@1 p/a-c@2");
         assert!(!tree.has("tank/a/b") && !tree.has("tank/a@old"));
         assert_eq!(tree.snapshots("tank/a-c").iter().map(|it| it.name.clone()).collect::<Vec<_>>(), ["tank/a-c@old", "tank/a-c@new"]);
         assert!(before.has("tank/a@old") && before.has("tank/a/b"));

@@ -192,6 +192,7 @@ impl From<Refusal> for Reason {
             Refusal::TagExists => Reason::TagExists,
             Refusal::NoTag => Reason::NoTag,
             Refusal::NotSnapshot => Reason::WrongKind,
+            Refusal::BadName => Reason::TooManyBelow,
             Refusal::BadStream => Reason::BadStream,
             Refusal::NoMemory => Reason::NoMemory,
             other => Reason::Text(format!("the layer answers {other}")),

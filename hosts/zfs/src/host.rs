@@ -37,9 +37,6 @@ pub struct Host {
     group: u64,
 }
 
-/// The root's path in the layer.
-const ROOT: &str = "p";
-
 /// The object and block that stand for the master node: no file system of ZFS is empty.
 const MASTER: (u32, u32) = (255, 4095);
 
@@ -58,16 +55,15 @@ impl Host {
         let layer = Layer::create(random() as u32 | 1, blocks)?;
         let (tree, settled) = (Tree::new(), Tree::new());
         let mut host = Host { name: name.clone(), layer, tree, facts, history: Vec::new(), scrubbed: None, settled, group: 1 };
-        host.layer.write(ROOT, MASTER.0, MASTER.1, &[1])?;
-        let root = host.new_file_system(ROOT.into(), Kind::FileSystem, clock);
+        host.layer.write(&name::in_layer(&name), MASTER.0, MASTER.1, &[1])?;
+        let root = host.new_file_system(Kind::FileSystem, clock);
         host.tree.insert(name, root);
         host.settle()?;
         Ok(host)
     }
 
-    pub fn new_file_system(&mut self, path: String, kind: Kind, clock: i64) -> FileSystem {
+    pub fn new_file_system(&mut self, kind: Kind, clock: i64) -> FileSystem {
         FileSystem {
-            path,
             kind,
             guid: random() >> 1 | 1,
             creation: clock,
@@ -145,10 +141,10 @@ impl Host {
     pub fn make_file_system(&mut self, name: &str, kind: Kind, clock: i64) -> Result<(), Reason> {
         let above = name::parent(name).ok_or(Reason::Exists)?;
         self.check_place(name, above)?;
-        let path = self.tree.free_path(above).ok_or(Reason::NoParent)?;
+        let path = name::in_layer(name);
         self.layer.order(&format!("create {path}"))?;
         self.layer.write(&path, MASTER.0, MASTER.1, &[1])?;
-        let file_system = self.new_file_system(path, kind, clock);
+        let file_system = self.new_file_system(kind, clock);
         self.tree.insert(name.to_owned(), file_system);
         Ok(())
     }
@@ -188,8 +184,7 @@ impl Host {
         for name in names {
             let (base, component) = name.split_once('@').ok_or(Refusal::BadName)?;
             let number = self.tree.next_component();
-            let path = &self.tree.get(base).ok_or(Refusal::NoDataset)?.path;
-            line += &format!(" {path}@{number}");
+            line += &format!(" {}@{number}", name::in_layer(base));
             made.push((base, component, number));
         }
         self.layer.order(&line)?;
@@ -203,7 +198,7 @@ impl Host {
     pub fn add_snapshot(&mut self, base: &str, name: &str, component: String, creation: i64, local: Values) -> Result<(), Refusal> {
         let objset = self.tree.next_objset();
         let file_system = self.tree.edit(base).ok_or(Refusal::NoDataset)?;
-        let path = format!("{}@{component}", file_system.path);
+        let path = format!("{}@{component}", name::in_layer(base));
         let snapshot = Snapshot {
             name: name.to_owned(),
             component,
@@ -225,8 +220,7 @@ impl Host {
     pub fn make_bookmark(&mut self, from: &Dataset, base: &str, name: &str) -> Result<(), Refusal> {
         let component = self.tree.next_component();
         let snapshot = from.snapshot().ok_or(Refusal::NotSnapshot)?;
-        let path = &self.tree.get(base).ok_or(Refusal::NoDataset)?.path;
-        self.layer.order(&format!("bookmark {} {path}#{component}", from.path))?;
+        self.layer.order(&format!("bookmark {} {}#{component}", from.path, name::in_layer(base)))?;
         let bookmark = Bookmark {
             name: name.to_owned(),
             component,
@@ -248,8 +242,8 @@ impl Host {
     }
 
     /// The name of the snapshot that a file system is a clone of.
-    pub fn origin(&mut self, path: &str) -> Option<String> {
-        let origin = self.layer.ask(&format!("get origin {path}")).ok()?;
+    pub fn origin(&mut self, name: &str) -> Option<String> {
+        let origin = self.layer.ask(&format!("get origin {}", name::in_layer(name))).ok()?;
         self.tree.named(&origin)
     }
 
@@ -304,8 +298,18 @@ pub mod tests {
         let mut host = host();
         make(&mut host, "tank/with blank");
         snapshot(&mut host, "tank/with blank@a b");
+        host.follow_layer();
         assert!(host.tree.has("tank/with blank@a b"));
         assert_eq!(host.tree.snapshots("tank/with blank").len(), 1);
+        assert_eq!(host.layer.ask("list").unwrap(), "p p/with:._blank p/with:._blank@1");
+    }
+
+    #[test]
+    fn a_name_that_is_too_long_in_the_layer_is_too_long() {
+        let mut host = host();
+        let blanks = |count: usize| format!("tank/{}", " ".repeat(count));
+        make(&mut host, &blanks(84));
+        assert_eq!(host.make_file_system(&blanks(85), Kind::FileSystem, 1), Err(Reason::TooManyBelow));
     }
 
     #[test]

@@ -109,6 +109,11 @@ impl Layer {
         Ok(self.pool.destroy_snapshots(names, false, is_deferred)?)
     }
 
+    /// Gives a file system another name, and so all below it.
+    pub fn rename(&mut self, name: &str, to: &str) -> Result<(), Refusal> {
+        Ok(self.pool.rename(name, to)?)
+    }
+
     /// A property that is a number.
     pub fn get(&mut self, name: &str, property: Property) -> Result<u64, Refusal> {
         Ok(self.pool.get(name, property)?)

@@ -12,7 +12,6 @@ mod failure;
 mod host;
 mod layer;
 mod mounting;
-mod moving;
 mod name;
 mod options;
 mod output;

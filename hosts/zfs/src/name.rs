@@ -44,6 +44,19 @@ pub fn bookmark(name: &str) -> Option<&str> {
     name.split_once('#').map(|(_, component)| component)
 }
 
+/// A file system's name in the layer: the pool is `p` there. The layer knows no blank and no `%`, so they stand there as `:._` and `:.-`, and a
+/// `:.` as `:..`; all else is the same.
+pub fn in_layer(name: &str) -> String {
+    let below = &name[pool(name).len()..];
+    format!("p{}", below.replace(":.", ":..").replace(' ', ":._").replace('%', ":.-"))
+}
+
+/// The name of the file system that the layer calls so.
+pub fn out_of_layer(pool: &str, name: &str) -> Option<String> {
+    let below = name.strip_prefix('p')?;
+    Some(format!("{pool}{}", below.replace(":._", " ").replace(":.-", "%").replace(":..", ":.")))
+}
+
 /// Whether a file system stands below another.
 pub fn is_below(name: &str, above: &str) -> bool {
     name.strip_prefix(above).is_some_and(|rest| rest.starts_with('/'))
@@ -140,6 +153,23 @@ mod tests {
         assert_eq!((base("a/b@c"), pool("a/b@c"), parent("a/b")), ("a/b", "a", Some("a")));
         assert_eq!((snapshot("a@b"), bookmark("a#b"), snapshot("a")), (Some("b"), Some("b"), None));
         assert!(is_below("a/b", "a") && !is_below("ab", "a") && !is_below("a", "a"));
+    }
+
+    #[test]
+    fn a_name_in_the_layer_is_of_one_name() {
+        assert_eq!((in_layer("tank"), in_layer("tank/a-b/c:d_.e")), ("p".into(), "p/a-b/c:d_.e".into()));
+        assert_eq!((in_layer("tank/a b%"), out_of_layer("back", "p/a:._b:.-")), ("p/a:._b:.-".into(), Some("back/a b%".into())));
+        assert_eq!((out_of_layer("tank", "p"), out_of_layer("tank", "-"), out_of_layer("tank", "")), (Some("tank".into()), None, None));
+        // All names of up to six of these.
+        let mut names = vec![String::from("tank/")];
+        for _ in 0..6 {
+            let longer: Vec<String> = names.iter().flat_map(|name| [':', '.', '_', '-', ' ', '%'].map(|next| format!("{name}{next}"))).collect();
+            for name in &longer {
+                let there = in_layer(name);
+                assert!(out_of_layer("tank", &there).as_ref() == Some(name) && !there.contains([' ', '%']), "{name}");
+            }
+            names = longer;
+        }
     }
 
     #[test]

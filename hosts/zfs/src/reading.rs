@@ -151,7 +151,7 @@ impl Host {
             Native::CompressRatio if dataset.kind() == Kind::Bookmark => "-".into(),
             Native::CompressRatio | Native::RefCompressRatio => "1.00".into(),
             Native::Mounted => if base.is_mounted { "yes" } else { "no" }.into(),
-            Native::Origin => self.origin(&dataset.path).unwrap_or_else(|| "-".into()),
+            Native::Origin => self.origin(&dataset.name).unwrap_or_else(|| "-".into()),
             Native::Clones => {
                 let mut names = self.clones(dataset).map(|names| names.join(",")).unwrap_or_default();
                 names.truncate(SHOWN_LIMIT);

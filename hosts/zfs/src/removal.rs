@@ -36,12 +36,20 @@ impl Host {
 
     /// Destroys a file system with all below it, its snapshots and their clones elsewhere. Of a root all but itself goes.
     pub fn destroy_tree(&mut self, name: &str) -> Outcome {
+        self.destroy_dependent(name, &[])
+    }
+
+    /// The same of one that goes before those of `above` can. Where it has one of them itself, none can go first.
+    fn destroy_dependent(&mut self, name: &str, above: &[&str]) -> Outcome {
         let inside = |other: &str| other == name || name::is_below(other, name);
+        if let Some(again) = above.iter().find(|it| inside(it)) {
+            return Err(Failure::Told(format!("cannot determine dependent datasets: recursive dependency at '{again}'")));
+        }
         for below in self.tree.with_below(name) {
             for snapshot in self.tree.snapshots(&below) {
                 for clone in self.clones(&snapshot).unwrap_or_default() {
                     if !inside(&clone) && self.tree.has(&clone) {
-                        self.destroy_tree(&clone)?;
+                        self.destroy_dependent(&clone, &[above, &[name]].concat())?;
                     }
                 }
             }
@@ -66,8 +74,10 @@ impl Host {
     }
 
     fn destroy_whole(&mut self, name: &str) -> Outcome {
-        let Some(file_system) = self.tree.get(name) else { return Ok(()) };
-        let line = format!("destroy -r {}", file_system.path);
+        if !self.tree.has(name) {
+            return Ok(());
+        }
+        let line = format!("destroy -r {}", name::in_layer(name));
         self.layer.order(&line).map_err(|refusal| self.not_destroyed(name, refusal))
     }
 

@@ -4,6 +4,7 @@ use crate::dataset::{Dataset, FileSystem, Kind, Part, Values};
 use crate::failure::{Failure, Outcome, Reason};
 use crate::host::Host;
 use crate::layer::{Layer, Refusal};
+use crate::name;
 use crate::property::{value, Kinds, Native, Property};
 use crate::size;
 use std::collections::BTreeSet;
@@ -195,7 +196,7 @@ impl Host {
     /// Runs a receive onto a file system. As in ZFS its refquota doesn't bind that: it may go over it, but by no more than the slack.
     pub fn receive_over_refquota(&mut self, base: &str, receive: impl FnOnce(&mut Layer) -> Result<(), Refusal>) -> Result<(), Refusal> {
         let file_system = self.tree.get(base).ok_or(Refusal::NoDataset)?;
-        let (path, refquota) = (file_system.path.clone(), refquota_of(file_system));
+        let (path, refquota) = (name::in_layer(base), refquota_of(file_system));
         if refquota == 0 {
             return receive(&mut self.layer);
         }
@@ -210,10 +211,10 @@ impl Host {
     /// Gives the layer a file system's refquota, or what it refers to where that is more.
     fn bind_refquota(&mut self, base: &str) -> Result<(), Refusal> {
         let file_system = self.tree.edit(base).ok_or(Refusal::NoDataset)?;
-        let refquota = in_blocks(refquota_of(file_system));
-        let referenced = self.layer.get(&file_system.path, Number::Referenced)?;
+        let (path, refquota) = (name::in_layer(base), in_blocks(refquota_of(file_system)));
+        let referenced = self.layer.get(&path, Number::Referenced)?;
         file_system.is_over_refquota = referenced > refquota;
-        self.layer.order(&format!("set refquota={} {}", refquota.max(referenced), file_system.path))
+        self.layer.order(&format!("set refquota={} {path}", refquota.max(referenced)))
     }
 
     /// Does so where a receive went over it: what a file system refers to may be less now.

@@ -159,6 +159,33 @@ fn a_renamed_file_system_takes_what_is_below() {
 }
 
 #[test]
+fn a_renamed_file_system_may_get_another_parent() {
+    let world = World::with_pool();
+    world.run("zfs create -p tank/a/b
+        zfs create tank/c
+        zfs yuz-write tank/a 0 0 1 61
+        zfs set my:note=x quota=100M tank/a
+        zfs snapshot -r tank/a@s
+        zfs bookmark tank/a@s tank/a#m
+        zfs hold keep tank/a@s
+        zfs clone tank/a@s tank/d");
+    let told = |name: &str| {
+        let guids = world.run(&format!("zfs get -Hp -r -t all -o value guid,createtxg,creation,referenced {name}"));
+        guids + &world.run(&format!("zfs get -Hp -o value my:note,quota {name}")) + &world.run(&format!("zfs yuz-read {name}@s 0 0"))
+    };
+    let before = told("tank/a");
+    world.run("zfs rename tank/a tank/c/e");
+    assert_eq!(names(&world, "tank"), ["tank", "tank/c", "tank/c/e", "tank/c/e@s", "tank/c/e#m", "tank/c/e/b", "tank/c/e/b@s", "tank/d"]);
+    assert_eq!((told("tank/c/e"), value(&world, "origin", "tank/d"), value(&world, "clones", "tank/c/e@s")), (before.clone(), "tank/c/e@s".into(), "tank/d".into()));
+    // With -p what is on the way is made.
+    world.run("zfs rename -p tank/c/e tank/f/g/h
+        zfs rename tank/d tank/f/d
+        zfs release keep tank/f/g/h@s");
+    assert_eq!(names(&world, "tank/f"), ["tank/f", "tank/f/d", "tank/f/g", "tank/f/g/h", "tank/f/g/h@s", "tank/f/g/h#m", "tank/f/g/h/b", "tank/f/g/h/b@s"]);
+    assert_eq!((told("tank/f/g/h"), value(&world, "origin", "tank/f/d")), (before, "tank/f/g/h@s".into()));
+}
+
+#[test]
 fn a_stream_makes_the_same_file_system_elsewhere() {
     let world = World::with_pool();
     world.pool("back");

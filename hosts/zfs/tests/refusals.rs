@@ -9,6 +9,7 @@ fn world() -> World {
     world.run("zfs create -p tank/a/b
         zfs create tank/c
         zfs create -V 8M tank/v
+        zfs create -o quota=1M tank/q
         zfs set quota=100M my:note=n tank/a
         zfs yuz-write tank/a 0 0 4 61
         zfs snapshot -r tank/a@1
@@ -18,7 +19,14 @@ fn world() -> World {
         zfs hold keep tank/a@2
         zfs clone tank/a@3 tank/d
         zfs snapshot tank/d@9
-        zfs bookmark tank/a@1 tank/a#m");
+        zfs bookmark tank/a@1 tank/a#m
+        zfs create -p tank/r/a
+        zfs snapshot tank/r/a@1
+        zfs clone tank/r/a@1 tank/s
+        zfs create tank/s/b
+        zfs snapshot tank/s/b@1
+        zfs clone tank/s/b@1 tank/t
+        zfs rename tank/r tank/t/r");
     world
 }
 
@@ -43,6 +51,7 @@ const REFUSED: &[(&str, i32, &str)] = &[
     ("zfs destroy -R tank/a@1%3", 1, "cannot destroy snapshot tank/a@2: dataset is busy"),
     ("zfs destroy tank/a@nope", 1, "could not find any snapshots to destroy; check snapshot names."),
     ("zfs destroy tank/a#nope", 1, "bookmark 'tank/a#nope' does not exist."),
+    ("zfs destroy -R tank/t", 1, "cannot determine dependent datasets: recursive dependency at 'tank/t'"),
     ("zfs destroy tank", 1, "cannot destroy 'tank': operation does not apply to pools"),
     ("zfs rollback tank/a@1", 1, "cannot rollback to 'tank/a@1': more recent snapshots or bookmarks exist"),
     ("zfs rollback -r tank/a@1", 1, "cannot rollback to 'tank/a@1': clones of previous snapshots exist"),
@@ -54,6 +63,11 @@ const REFUSED: &[(&str, i32, &str)] = &[
     ("zfs rename tank/a@1 tank/a@2", 1, "cannot rename 'tank/a@1': dataset already exists"),
     ("zfs rename -r tank/a@1 tank/a@other", 1, "cannot rename 'tank/a@1': a child dataset already has a snapshot with the new name"),
     ("zfs rename tank/a tank/a/x", 1, "cannot rename to 'tank/a/x': New dataset name cannot be a descendant of current dataset name"),
+    ("zfs rename tank/a tank/x/a", 1, "cannot create 'tank/x/a': parent does not exist"),
+    ("zfs rename tank/v tank/q/v", 1, "cannot rename 'tank/v': out of space"),
+    ("zfs rename -p tank/v tank/q/x/y/v", 1, "cannot rename 'tank/v': out of space"),
+    ("zfs rename -p tank/a tank/a/x/y", 1, "cannot rename to 'tank/a/x/y': New dataset name cannot be a descendant of current dataset name"),
+    ("zfs rename -p tank/a tank/v/x/y", 1, "cannot create 'tank/v/x/y': parent is not a filesystem"),
     ("zfs bookmark tank/a@1 tank/a#m", 1, "cannot create bookmark 'tank/a#m': bookmark exists"),
     ("zfs hold keep tank/a@2", 1, "cannot hold snapshot 'tank/a@2': tag already exists on this dataset"),
     ("zfs hold -r keep tank/a@nope", 1, "cannot hold snapshot 'tank/a@nope': dataset does not exist"),

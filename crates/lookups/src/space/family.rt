@@ -11,8 +11,7 @@ ghost use Rattle.accounts.specs.Limits.{IsUnlimited};
 ghost use Rattle.lookups.specs.Used.{own_in, own_within};
 
 use base::name::DsName;
-use datasets::{FileSystem, Table};
-use snap::is_in_family;
+use datasets::{FileSystem, Table, is_in_family};
 use std::sync::Arc;
 
 // How many blocks a file system and its snapshots have that its origin hasn't. Constant time.

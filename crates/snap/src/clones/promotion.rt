@@ -1,11 +1,10 @@
 //! The promote of a clone.
-ghost use Rattle.std.specs.Prelude.{◌≡◌, ◌≤◌, ◌⊎◌, Some, None, IfSome, IfErr, OnOk, OnErr, nat_lt};
+ghost use Rattle.std.specs.Prelude.{◌≡◌, ◌≤◌, ◌⊎◌, Some, None, IfSome, IfErr, OnOk, OnErr};
 ghost use Rattle.std.specs.List.{list_any};
 ghost use Rattle.std.specs.Option.{option_map};
 ghost use Rattle.base.specs.declared.refusal.Refusal.{Refusal};
-ghost use Rattle.base.specs.Names.{same_name, whole_length};
+ghost use Rattle.base.specs.Names.{same_name};
 ghost use Rattle.model.specs.Ids.{snap_id};
-ghost use Rattle.model.specs.Targets.{name_limit};
 ghost use Rattle.model.specs.requests.Promote.{promotion_of};
 ghost use Rattle.model.specs.requests.Rollback.{snaps_upto};
 ghost use Rattle.world.specs.Tables.{world_of};
@@ -13,7 +12,7 @@ ghost use Rattle.world.specs.Worlds.{AreRising};
 ghost use Rattle.datasets.specs.Promotions.{promotion_between};
 ghost use Rattle.snap.specs.Requests.{promoted, promote_refusal, KeepsPrevious};
 
-use crate::named::Named;
+use crate::lengths::any_long_upto;
 use base::meter::SegMeter;
 use base::name::{Component, DsName};
 use base::number::Group;
@@ -63,7 +62,7 @@ fn refusal_of(table: &Table, name: &DsName) -> Option<Refusal>
         return Some(Refusal::NotClone);
     };
     table.facts();
-    if any_too_long(owner, origin.group, name) {
+    if any_long_upto(owner, origin.group, name.as_bytes().len()) {
         return Some(Refusal::BadName);
     }
     if any_taken(owner, origin.group, clone) {
@@ -84,27 +83,6 @@ fn promotion_of<'a>(
     let origin = clone.origin()?;
     let (owner, _) = table.snapshot_of(origin)?;
     Some((clone, owner, origin))
-}
-
-// Whether a snapshot of `owner` of that group or an earlier one would have too long a name under the file system name `name`. It costs the
-// number of these snapshots.
-fn any_too_long(owner: &FileSystem, group: Group, name: &DsName) -> bool
-    requires { AreRising 0 owner.now.system.snaps }
-    ensures { result ≡ list_any (λ t. nat_lt name_limit (whole_length (record { file_system = name.now; component = t.name }))) (snaps_upto owner.now.system group.0) }
-{
-    for kept in owner.snapshots().iter() {
-        if kept.snapshot.group() > group {
-            return false;
-        }
-        let renamed = Named {
-            file_system: name,
-            component: kept.snapshot.name(),
-        };
-        if renamed.is_too_long() {
-            return true;
-        }
-    }
-    false
 }
 
 // Whether the file system has a snapshot of this name. It costs the logarithm of the number of its snapshots.

@@ -1,5 +1,5 @@
 -- What a receive begins with: what holds of a pool between two steps holds of it, whatever the limits.
-use Rattle.std.proofs.Common.{◌≡◌, ℕ, ◌<◌, ◌≤◌, ◌⊎◌, Bool, true, false, true≢false, not, map, List, [], ◌∷◌, ◌++◌, Option, Some, None, refl, sym, ap, subst, ◌∙◌, inl, inr, ⊎_elim, arith}
+use Rattle.std.proofs.Common.{◌≡◌, ℕ, ◌<◌, ◌≤◌, ◌⊎◌, Bool, true, false, true≢false, map, List, [], ◌∷◌, ◌++◌, Option, Some, None, refl, sym, ap, subst, ◌∙◌, inl, inr, ⊎_elim, arith}
 use Rattle.std.specs.Prelude.{◌==◌, IsSome, is_some, nat_le, nat_lt, if◌then◌else◌}
 use Rattle.std.specs.List.{filter, last_or}
 use Rattle.std.specs.Option.{option_map_or, option_and_then}
@@ -8,8 +8,6 @@ use Rattle.std.specs.FinSet.{union, difference}
 use Rattle.std.proofs.lemmas.Bool.{leb-true, lt-ltb}
 use Rattle.base.specs.Map.{Block, BlockSet}
 use Rattle.base.specs.Surveys.{IsIn}
-use Rattle.base.specs.declared.refusal.Refusal.{Refusal}
-use Rattle.base.specs.declared.refusal.Refusal.TheVariants.{NoDataset, Deferred, WrongSource}
 use Rattle.base.specs.declared.name.member.Member.{Member}
 use Rattle.stream.specs.Spelling.{Sending}
 use Rattle.model.specs.declared.receiving.Receiving.{Receiving}
@@ -22,7 +20,7 @@ use Rattle.model.specs.requests.Clone.{with_clone}
 use Rattle.model.specs.requests.Create.{with_new_file_system, create_refusal}
 use Rattle.model.specs.requests.Destroy.{snaps_within}
 use Rattle.model.specs.requests.Rollback.{snaps_upto, snaps_after, back_at, after_rollback, is_busy, has_clone_outside}
-use Rattle.model.specs.requests.Receive.{newest_of, source_of, back_to_newest, forced_back, back_past, cloned_from, vacated, emptied, before_full, before_incremental, before_receive, snaps_past, new_row, origin_row, full_row, incremental_row, stream_row}
+use Rattle.model.specs.requests.Receive.{newest_of, source_of, back_to_newest, forced_back, back_past, cloned_from, vacated, emptied, before_full, before_incremental, before_receive, snaps_past, full_row, incremental_row, stream_row}
 use Rattle.world.specs.Sets.{Has}
 use Rattle.world.specs.Blocks.{block_order as o}
 use Rattle.world.specs.Shapes.{Name}

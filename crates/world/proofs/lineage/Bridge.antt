@@ -135,7 +135,7 @@ module _ (ss : FileSystems) (g : ℕ) (good : IsGood (shapes ss) g) where
       let one : s ≡ e = same_value s e (sym at ∙ ap (get ss) names ∙ at') in
       (names, rising_once (start name s at).base s.snaps t u (rising name s at) h (subst (λ (x : FileSystem). IsIn x.snaps u) (sym one) k) (ap (λ (x : SnapId). x.group) ids))
 
-in_entries : (es : List (Name × FileSystem)) (name : Name) (s : FileSystem) → IsEntry es name s → IsIn es (name, s)
+pub in_entries : (es : List (Name × FileSystem)) (name : Name) (s : FileSystem) → IsEntry es name s → IsIn es (name, s)
 in_entries [] name s h = absurd h
 in_entries (e ∷ es) name s h = ⊎_elim (λ k. inl (λ i. (k.0 i, k.1 i))) (λ k. inr (in_entries es name s k)) h
 

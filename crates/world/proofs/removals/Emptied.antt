@@ -1,5 +1,5 @@
 -- A file system that is no clone is emptied: its snapshots go, none of which has a clone, and then its live map and its bookmarks.
-use Rattle.std.proofs.Common.{◌≡◌, ℕ, List, [], Option, Some, None, refl, sym, ap, subst, ◌∙◌, true≢false, inl, ⊎_elim, arith}
+use Rattle.std.proofs.Common.{◌≡◌, ℕ, [], Option, Some, None, refl, sym, ap, subst, ◌∙◌, true≢false, inl, ⊎_elim, arith}
 use Rattle.std.specs.Prelude.{IsSome, is_some}
 use Rattle.std.specs.Option.{option_map_or}
 use Rattle.std.specs.FinMap.{get, insert}
@@ -9,10 +9,10 @@ use Rattle.base.specs.Surveys.{IsIn}
 use Rattle.model.specs.World.{World, FileSystem, Snap, SnapId, id_of, snap_at, empty_file_system, reach_of}
 use Rattle.model.specs.State.{State}
 use Rattle.model.specs.Edits.{with_now, with_file_system, with_losses}
-use Rattle.model.specs.requests.Receive.{vacated, emptied}
+use Rattle.model.specs.requests.Receive.{vacated}
 use Rattle.world.specs.Dead.{HasNoCloneIn}
 use Rattle.world.specs.Shapes.{Name, name_order, Writes, IsGood}
-use Rattle.world.specs.Worlds.{FileSystems, shape_of, shapes, AreFileSystems, AreMapsFrom, IsWorld, ArePaired, IsPoolState}
+use Rattle.world.specs.Worlds.{FileSystems, shape_of, shapes, AreFileSystems, AreMapsFrom, IsWorld, IsPoolState}
 use Rattle.world.proofs.changes.Creations.{bare_tidy}
 use Rattle.world.proofs.changes.Kept.{world_losses, pair_losses, losses_reach}
 use Rattle.world.proofs.lineage.Bridge.{shape_at, start, starts, no_block, from_snap_at, snap_is_at}

@@ -25,7 +25,9 @@ use Rattle.world.specs.Outcomes.{Promotion, promotion_of, promoted_snaps, after_
 use Rattle.world.specs.Dead.{base_of, HasNoCloneIn}
 use Rattle.world.proofs.removals.Rollbacks.{rollback_world, rollback_pairs, rollback_seen}
 use Rattle.world.proofs.changes.Creations.{clone_keeps, clone_pairs}
+use Rattle.model.specs.requests.Rename.{with_renamed}
 use Rattle.world.proofs.changes.Promotions.{promote_world, promote_pairs, promote_there}
+use Rattle.world.proofs.changes.Renames.{CanRename, rename_world, rename_pairs, renamed_there}
 use Rattle.world.proofs.steps.SnapshotLists.{snapshots_keep, snapshots_pair, snapshots_there}
 use Rattle.world.proofs.changes.Plans.{plan_world, plan_pairs}
 use Rattle.world.specs.Shapes.{Name, name_order}
@@ -173,6 +175,11 @@ pub promote_before : (s : State) → IsPoolState s → (name : Name) (p : Promot
     → ((t u : Snap) → IsIn (promoted_snaps p) t → IsIn p.clone.snaps u → t.name ≡ u.name → ⊥) → IsPoolState (with_now s (after_promotion s.now name p))
 promote_before s good name p is clash = now_keeps s good (after_promotion s.now name p)
     (promote_world s.now good.now.systems name p is clash s.size good.now) (promote_pairs s.now good.now.systems name p is clash s.size good.now s.last good.pair) (promote_there s.now good.now.systems name p is clash)
+
+pub rename_before : (s : State) → IsPoolState s → (from to : Name) → CanRename s.now.file_systems from to → IsPoolState (with_now s (with_renamed s.now from to))
+rename_before s good from to can = now_keeps s good (with_renamed s.now from to)
+    (rename_world s.now good.now.systems from to can s.size good.now) (rename_pairs s.now good.now.systems from to can s.size good.now s.last good.pair)
+    (renamed_there s.now.file_systems from to can)
 
 -- ---- snapshots destroyed, of which none has a clone or a view
 

@@ -1,11 +1,10 @@
 -- A receive that isn't refused leaves the snapshots of open views.
-use Rattle.std.proofs.Common.{◌≡◌, ℕ, Bool, true, false, true≢false, cond, not, List, [], ◌∷◌, ◌++◌, Option, Some, None, refl, sym, ap, subst, ◌∙◌, ◌⊎◌, inl, inr, ⊎_elim, map}
+use Rattle.std.proofs.Common.{◌≡◌, ℕ, Bool, true, false, true≢false, not, List, [], ◌∷◌, Option, Some, None, refl, sym, ap, subst, ◌∙◌, ◌⊎◌, inl, inr, ⊎_elim, map}
 use Rattle.std.specs.Prelude.{◌==◌, IsSome, is_some, if◌then◌else◌}
 use Rattle.std.specs.List.{filter, find, last_or}
 use Rattle.std.specs.Option.{option_map, option_map_or, option_and_then}
 use Rattle.std.specs.FinMap.{get, contains_key}
 use Rattle.base.specs.declared.number.Key.{Key}
-use Rattle.base.specs.declared.refusal.Refusal.{Refusal}
 use Rattle.base.specs.declared.refusal.Refusal.TheVariants.{NoDataset, Exists, Busy, HasClones, BadStream}
 use Rattle.base.specs.Rewrite.{rewrite}
 use Rattle.base.specs.Names.{same_name}
@@ -18,14 +17,13 @@ use Rattle.model.specs.declared.receiving.Receiving.TheVariants.{Plain, Back, Pa
 use Rattle.model.specs.World.{World, FileSystem, Snap, id_of, file_system_at, snap_named, empty_file_system, map_of_snap}
 use Rattle.model.specs.State.{State, Views}
 use Rattle.model.specs.Edits.{with_file_system, with_losses, after_change}
-use Rattle.model.specs.Rule.{Row, first_of}
+use Rattle.model.specs.Rule.{first_of}
 use Rattle.model.specs.requests.Change.{limit_row}
 use Rattle.model.specs.Refusals.{state_asked, refusal_of}
 use Rattle.model.specs.requests.Clone.{with_clone}
-use Rattle.model.specs.requests.Create.{with_new_file_system}
 use Rattle.model.specs.requests.Destroy.{snaps_within}
 use Rattle.model.specs.requests.Rollback.{snaps_after, back_at, is_busy, has_clone_outside}
-use Rattle.model.specs.requests.Receive.{newest_of, source_of, back_to_newest, forced_back, back_past, cloned_from, vacated, emptied, before_full, before_incremental, before_receive, received, snaps_past, new_row, replace_row, past_row, origin_row, full_row, incremental_row, stream_row, receive_rule}
+use Rattle.model.specs.requests.Receive.{newest_of, source_of, back_to_newest, forced_back, back_past, cloned_from, vacated, before_full, before_incremental, before_receive, received, snaps_past, new_row, replace_row, past_row, origin_row, full_row, incremental_row, stream_row, receive_rule}
 use Rattle.world.specs.RunLaws.{HasSnap}
 use Rattle.world.proofs.lists.Finding.{from_filter, from_find, in_flat}
 use Rattle.world.proofs.lists.Listed.{map_in}

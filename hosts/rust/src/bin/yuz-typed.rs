@@ -73,6 +73,104 @@ fn destroy_several() -> Outcome {
     expect(&mut pool, "list", "p p/a")
 }
 
+/// A pool with p/a, p/a@s, p/a@t, p/a#m, p/a/x, p/a/x@u, and a clone p/c of p/a@s.
+fn with_a_family() -> Result<Pool, Box<dyn StdError>> {
+    let mut pool = Pool::create(4, 1000)?;
+    pool.create_file_system("p/a")?;
+    pool.write("p/a", 0, 0, &[97; 512])?;
+    pool.snapshot("p/a@s", false)?;
+    pool.write("p/a", 0, 0, &[98; 512])?;
+    pool.snapshot("p/a@t", false)?;
+    pool.bookmark("p/a@t", "p/a#m")?;
+    pool.create_file_system("p/a/x")?;
+    pool.write("p/a/x", 0, 0, &[99; 512])?;
+    pool.snapshot("p/a/x@u", false)?;
+    pool.clone_snapshot("p/a@s", "p/c")?;
+    Ok(pool)
+}
+
+/// A rename takes all below the file system with it, and changes nothing but names.
+fn rename_a_family() -> Outcome {
+    let mut pool = with_a_family()?;
+    pool.hold("kept", "p/a@t")?;
+    pool.set("p/a", Limit::Quota, 51_200)?;
+    let view = pool.open_view("p/a/x@u")?;
+    let sent = stream(&mut pool, "p/a@t", Some("p/a@s"))?;
+    let before = pool.entries()?;
+    pool.rename("p/a", "p/d")?;
+    expect(&mut pool, "list", "p p/c p/d p/d@s p/d@t p/d#m p/d/x p/d/x@u")?;
+    expect(&mut pool, "get origin p/c", "p/d@s")?;
+    expect(&mut pool, "get clones p/d@s", "p/c")?;
+    expect(&mut pool, "get quota p/d", "51200")?;
+    assert_eq!(pool.holds("p/d@t")?, ["kept"]);
+    for (name, byte) in [("p/d@s", 97), ("p/d", 98), ("p/d/x@u", 99), ("p/c", 97)] {
+        assert_eq!(pool.read(name, 0, 0)?, Some([byte; 512]), "{name}");
+    }
+    assert_eq!(pool.destroy("p/d/x@u", false, false), Err(Error::Busy));
+    pool.close_view(view)?;
+    assert_eq!(stream(&mut pool, "p/d@t", Some("p/d@s"))?, sent);
+    pool.rename("p/d", "p/c/d")?;
+    pool.rename("p/c", "p/b")?;
+    expect(&mut pool, "list", "p p/b p/b/d p/b/d@s p/b/d@t p/b/d#m p/b/d/x p/b/d/x@u")?;
+    expect(&mut pool, "get origin p/b", "p/b/d@s")?;
+    pool.rename("p/b/d", "p/a")?;
+    pool.rename("p/b", "p/c")?;
+    assert_eq!(pool.entries()?, before);
+    Ok(())
+}
+
+/// What refuses a rename, which has changed nothing then.
+fn rename_is_refused() -> Outcome {
+    let mut pool = with_a_family()?;
+    let before = pool.entries()?;
+    for (name, to, error) in [
+        ("p/none", "p", Error::NoDataset),
+        ("p", "p", Error::IsRoot),
+        ("p/a", "p", Error::Exists),
+        ("p/a", "p/a", Error::Exists),
+        ("p/a", "p/a/x", Error::Exists),
+        ("p/a", "p/none/a", Error::NoParent),
+        ("p/a", "q", Error::NoParent),
+        ("p/a", "p/a/none/y", Error::NoParent),
+        ("p/a", "p/a/y", Error::BadName),
+        ("p/a", "p/a/x/y", Error::BadName),
+        ("p/a@s", "p/a@v", Error::BadName),
+        ("p/a", "p/d@s", Error::BadName),
+        ("p/a", "", Error::BadName),
+        ("", "p/d", Error::BadName),
+    ] {
+        assert_eq!(pool.rename(name, to), Err(error), "{name} {to}");
+    }
+    // The longest name that the rename makes is that of the snapshot of the child.
+    let long = format!("p/{}", "l".repeat(255 - "p/".len() - "/x@u".len()));
+    assert_eq!(pool.rename("p/a", &format!("{long}l")), Err(Error::BadName));
+    assert_eq!(pool.entries()?, before);
+    pool.rename("p/a", &long)?;
+    assert_eq!(pool.read(&format!("{long}/x@u"), 0, 0)?, Some([99; 512]));
+    Ok(())
+}
+
+/// The limits above the new name are asked. The first block of a file system takes six blocks.
+fn rename_within_limits() -> Outcome {
+    let mut pool = Pool::create(5, 1000)?;
+    for name in ["p/a", "p/a/x", "p/q"] {
+        pool.create_file_system(name)?;
+    }
+    pool.write("p/a/x", 0, 0, &[97; 512])?;
+    pool.set("p/a", Limit::Reservation, 995 * 512)?;
+    pool.set("p/q", Limit::Quota, 5 * 512)?;
+    assert_eq!(pool.rename("p/a/x", "p/q/x"), Err(Error::Quota));
+    assert_eq!(pool.rename("p/a/x", "p/x"), Err(Error::NoSpace));
+    expect(&mut pool, "list", "p p/a p/a/x p/q")?;
+    pool.set("p/a", Limit::Reservation, 994 * 512)?;
+    pool.rename("p/a/x", "p/x")?;
+    expect(&mut pool, "get available p", "0")?;
+    pool.set("p/a", Limit::Reservation, 0)?;
+    pool.set("p/q", Limit::Quota, 6 * 512)?;
+    pool.rename("p/x", "p/q/x")?;
+    expect(&mut pool, "get available p/q", "0")
+}
+
 fn main() -> Outcome {
     let mut pool = Pool::create(1, 1000)?;
     pool.create_file_system("p/a")?;
@@ -118,6 +216,9 @@ fn main() -> Outcome {
     expect(&mut pool, "read p/a 1 0", "hole")?;
     receive_in_modes(&mut pool)?;
     destroy_several()?;
+    rename_a_family()?;
+    rename_is_refused()?;
+    rename_within_limits()?;
     println!("typed: each call tells what its line tells");
     Ok(())
 }

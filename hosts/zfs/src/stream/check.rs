@@ -73,8 +73,7 @@ impl Host {
         if let Some(child) = self.tree.children(base).first().filter(|_| is_volume) {
             return fail(format!("destination has children (eg. {child})\ncannot overwrite with a ZVOL"));
         }
-        let path = self.tree.get(base).map(|it| it.path.clone()).unwrap_or_default();
-        if self.origin(&path).is_some() {
+        if self.origin(base).is_some() {
             return fail(format!("destination '{base}' is a clone\nmust destroy it to overwrite it"));
         }
         self.check_unused(base, &manner.folder)

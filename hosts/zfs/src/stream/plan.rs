@@ -179,8 +179,7 @@ impl Host {
     fn plan_package(&mut self, wanted: &Wanted) -> Outcome<Plan> {
         let (base, component) = wanted.name.split_once('@').unwrap_or((&wanted.name, ""));
         self.open(&wanted.name)?;
-        let whole = self.open(base)?;
-        let origin = self.origin(&whole.path);
+        let origin = self.origin(base);
         let is_from_origin = wanted.from.is_some() && wanted.from == origin;
         let from = wanted.from.as_deref().filter(|_| !is_from_origin).and_then(name::snapshot);
         if let Some(from) = from {
@@ -197,8 +196,7 @@ impl Host {
                 continue;
             }
             let chain = self.chain(wanted, name, from, component);
-            let origin = self.tree.whole(name).and_then(|it| self.origin(&it.path));
-            let origin = origin.filter(|origin| is_from_origin || wanted.is_replication && set.contains(name::base(origin)));
+            let origin = self.origin(name).filter(|origin| is_from_origin || wanted.is_replication && set.contains(name::base(origin)));
             self.add_steps(wanted, name, &chain, from, origin, &mut plan)?;
         }
         Ok(plan)
@@ -237,8 +235,7 @@ impl Host {
         let mut ordered: Vec<String> = Vec::new();
         while !left.is_empty() {
             let is_ready = |host: &mut Host, name: &String, left: &[String]| {
-                let origin = host.tree.whole(name).and_then(|it| host.origin(&it.path));
-                origin.is_none_or(|origin| !left.iter().any(|it| it == name::base(&origin)))
+                host.origin(name).is_none_or(|origin| !left.iter().any(|it| it == name::base(&origin)))
             };
             let place = (0..left.len()).find(|&place| is_ready(self, &left[place].clone(), &left)).unwrap_or(0);
             ordered.push(left.remove(place));

@@ -168,11 +168,9 @@ impl Host {
         } else if self.tree.has(base) {
             self.replace(arrived, base, &component, bytes)?;
         } else {
-            let above = name::parent(base).unwrap_or(base);
-            let path = self.tree.free_path(above).ok_or(Reason::NoParent).trying(action)?;
-            let to = format!("{path}@{component}");
+            let to = format!("{}@{component}", name::in_layer(base));
             self.layer.receive(&to, Receiving::Plain, bytes).map_err(|refusal| not_received(arrived, base, refusal))?;
-            let file_system = self.new_file_system(path, step.kind, manner.clock);
+            let file_system = self.new_file_system(step.kind, manner.clock);
             self.tree.insert(base.to_owned(), file_system);
         }
         if let Some(file_system) = self.tree.edit(base) {
@@ -185,8 +183,7 @@ impl Host {
 
     /// Receives a stream in full over a file system that is there: its contents and bookmarks go, and what is below it stays.
     fn replace(&mut self, arrived: &Arrived, base: &str, component: &str, bytes: &[u8]) -> Outcome {
-        let path = self.tree.get(base).map(|it| it.path.clone()).unwrap_or_default();
-        let to = format!("{path}@{component}");
+        let to = format!("{}@{component}", name::in_layer(base));
         let received = self.receive_over_refquota(base, |layer| layer.receive(&to, Receiving::Replace, bytes));
         received.map_err(|refusal| not_received(arrived, base, refusal))?;
         self.follow_layer();
@@ -194,14 +191,14 @@ impl Host {
     }
 
     fn empty(&mut self, base: &str) -> Result<(), Refusal> {
-        let path = self.tree.get(base).map(|it| it.path.clone()).unwrap_or_default();
+        let path = name::in_layer(base);
         (0..OBJECTS).try_for_each(|object| self.layer.order(&format!("rmobj {path} {object}")))
     }
 
     /// Receives a stream whose source has the contents that the file system has now.
     fn receive_onto_now(&mut self, arrived: &Arrived, base: &str, component: &str, bytes: &[u8]) -> Outcome {
         let action = || arrived.step.action();
-        let path = self.tree.get(base).map(|it| it.path.clone()).unwrap_or_default();
+        let path = name::in_layer(base);
         let now = format!("{path}@{}", self.tree.next_component());
         self.layer.order(&format!("snapshot {now}")).trying(action)?;
         let guid = self.layer.get(&now, yuzgont::Property::Guid).trying(action)?;
@@ -219,8 +216,8 @@ impl Host {
             return Err(not_received(arrived, base, Refusal::WrongSource));
         }
         // What a cut receive has left makes room for the clone.
-        if let Some(old) = self.tree.get(base).map(|it| it.path.clone()) {
-            self.layer.order(&format!("destroy {old}")).trying(|| step.action())?;
+        if self.tree.has(base) {
+            self.layer.order(&format!("destroy {}", name::in_layer(base))).trying(|| step.action())?;
             self.tree.remove(base);
         }
         if step.from_guid == 0 {
@@ -252,10 +249,9 @@ impl Host {
         let source = snapshots.iter().find(|it| it.guid() == step.from_guid).ok_or_else(|| wrong(Refusal::WrongSource))?;
         let newest = snapshots.last().filter(|newest| newest.name != source.name && !manner.is_forced);
         let respelled = newest.map(|newest| with_source(bytes, newest.guid())).transpose().map_err(wrong)?;
-        let path = self.tree.get(base).map(|it| it.path.clone()).unwrap_or_default();
         let component = self.tree.next_component();
         let mode = if manner.is_forced { Receiving::Past } else { Receiving::Plain };
-        let (to, bytes) = (format!("{path}@{component}"), respelled.as_deref().unwrap_or(bytes));
+        let (to, bytes) = (format!("{}@{component}", name::in_layer(base)), respelled.as_deref().unwrap_or(bytes));
         self.receive_over_refquota(base, |layer| layer.receive(&to, mode, bytes)).map_err(wrong)?;
         if manner.is_forced {
             self.follow_layer();
@@ -387,7 +383,7 @@ impl Host {
         let none = || Failure::Told(format!("'{name}' does not have any resumable receive state to abort"));
         let partial = base.partial.as_ref().ok_or_else(none)?;
         if partial.is_fresh {
-            self.layer.order(&format!("destroy {}", base.path)).trying(|| Action::Destroy(name.to_owned()))?;
+            self.layer.order(&format!("destroy {}", name::in_layer(name))).trying(|| Action::Destroy(name.to_owned()))?;
             self.tree.remove(name);
         } else if let Some(file_system) = self.tree.edit(name) {
             file_system.partial = None;
@@ -617,7 +613,7 @@ mod tests {
         let copy = host.open("tank/d").unwrap().path;
         assert_eq!(host.layer.read(&copy, 5, 5).unwrap().unwrap()[0], 5);
         assert_eq!(host.layer.read(&copy, 0, 0).unwrap().unwrap()[0], 1);
-        assert!(host.origin(&copy).is_some_and(|origin| origin.ends_with("@1")));
+        assert!(host.origin("tank/d").is_some_and(|origin| origin.ends_with("@1")));
         assert_eq!(host.tree.snapshots("tank/d").len(), 1);
         assert_eq!(host.layer.ask("list").unwrap().matches(&format!("{copy}@")).count(), 1);
     }
@@ -634,7 +630,7 @@ mod tests {
         assert_eq!(receive(&mut host, &no_snapshot, &full).unwrap_err(), "cannot receive new filesystem stream: invalid backup stream\n");
         receive(&mut host, &manner, &full).unwrap();
         let copy = host.open("tank/d").unwrap().path;
-        assert_eq!(host.origin(&copy).as_deref(), Some("tank/a@1"));
+        assert_eq!(host.origin("tank/d").as_deref(), Some("tank/a@1"));
         assert_eq!(host.layer.read(&copy, 0, 0).unwrap().unwrap()[0], 2);
         assert_eq!(host.open("tank/d@2").unwrap().guid(), host.open("tank/a@2").unwrap().guid());
         let mut step = arrived(&mut host, "tank/a@2", Some("tank/a@1"), "tank/e@2");

@@ -1,8 +1,8 @@
 //! The layer's stream onto another source of the same contents.
 //!
 //! A stream says what has changed since its source, and names the source by its guid (crates/stream/specs): a text of 8 bytes, the guids of
-//! source and target, the records, and a SHA-256 of all before it. A snapshot of a fresh clone has its origin's contents and a guid of its
-//! own; one of an emptied file system has those that a stream in full starts from. So either may be the source, once its guid stands there.
+//! source and target, the records, and a SHA-256 of all before it. A snapshot of an emptied file system has the contents that a stream in full
+//! starts from, and a newer snapshot that has changed nothing has its source's. So either may be the source, once its guid stands there.
 
 use crate::layer::Refusal;
 

@@ -77,9 +77,8 @@ impl Host {
         let snapshot = self.tree.find(source).ok_or(Reason::NoDataset)?;
         let above = name::parent(target).ok_or_else(|| Reason::Text("missing dataset name".into()))?;
         self.check_place(target, above)?;
-        let path = self.tree.free_path(above).ok_or(Reason::NoParent)?;
-        make(&mut self.layer, &snapshot.path, &path)?;
-        let mut clone = self.new_file_system(path, snapshot.base.kind, clock);
+        make(&mut self.layer, &snapshot.path, &name::in_layer(target))?;
+        let mut clone = self.new_file_system(snapshot.base.kind, clock);
         for property in COPIED {
             clone.local.extend(snapshot.base.local.get(property).map(|value| (property.to_owned(), value.clone())));
         }
@@ -94,7 +93,7 @@ impl Host {
     /// origin backward; a name that would be too long goes before all.
     pub fn promote(&mut self, name: &str) -> Result<(), Reason> {
         let whole = self.tree.whole(name).ok_or(Reason::NoDataset)?;
-        let origin = self.origin(&whole.path).ok_or(Reason::NotClone)?;
+        let origin = self.origin(name).ok_or(Reason::NotClone)?;
         let given = self.tree.snapshots(name::base(&origin));
         let count = given.iter().position(|it| it.name == origin).map_or(0, |place| place + 1);
         let mut components = given[..count].iter().filter_map(|it| name::snapshot(&it.name));
@@ -141,8 +140,7 @@ mod tests {
         let moved = host.open("tank/c@1").unwrap();
         assert_eq!(moved.snapshot().unwrap().local["x:y"], "z");
         assert_eq!(host.tree.snapshots("tank/a").len(), 1);
-        let path = host.open("tank/a").unwrap().path;
-        assert_eq!(host.origin(&path).as_deref(), Some("tank/c@1"));
+        assert_eq!(host.origin("tank/a").as_deref(), Some("tank/c@1"));
     }
 
     #[test]

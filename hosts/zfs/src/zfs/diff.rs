@@ -76,10 +76,8 @@ impl Host {
     /// The file systems that a dataset comes from: its own, that of its origin, and so on.
     fn lineage(&mut self, dataset: &Dataset) -> Vec<String> {
         let mut names = vec![name::base(&dataset.name).to_owned()];
-        let mut path = dataset.base.path.clone();
-        while let Some(origin) = self.origin(&path).and_then(|origin| self.tree.find(&origin)) {
-            names.push(name::base(&origin.name).to_owned());
-            path = origin.base.path.clone();
+        while let Some(origin) = names.last().and_then(|name| self.origin(name)) {
+            names.push(name::base(&origin).to_owned());
         }
         names
     }
@@ -89,7 +87,7 @@ impl Host {
         let mut last = to.snapshot().map(|_| to.create_txg());
         let mut base = to.clone();
         while name::base(&base.name) != name::base(&from.name) {
-            match self.origin(&base.base.path).and_then(|origin| self.tree.find(&origin)) {
+            match self.origin(name::base(&base.name)).and_then(|origin| self.tree.find(&origin)) {
                 // The origin itself stands before its clones.
                 Some(origin) => (last, base) = (Some(origin.create_txg() + 1), origin),
                 None => return false,

@@ -1,5 +1,4 @@
-//! `zfs rename`. A name is the host's, so the layer is asked for nothing where the file system above stays the same. Else it is moved
-//! (`moving`).
+//! `zfs rename`. A file system is renamed in the layer, and a snapshot here alone.
 
 use super::walk;
 use crate::call::Call;
@@ -113,11 +112,8 @@ fn rename_file_system(host: &mut Host, source: &str, target: &str, folder: Optio
     }
     let mut mounted = host.mounted();
     mounted.retain(|(name, _)| name == source || name::is_below(name, source));
-    if name::parent(source) == name::parent(target) {
-        host.tree.rename(source, target);
-    } else {
-        host.move_file_system(source, target).trying(action)?;
-    }
+    host.layer.rename(&name::in_layer(source), &name::in_layer(target)).trying(action)?;
+    host.tree.rename(source, target);
     let renamed = mounted.into_iter().map(|(old, place)| (format!("{target}{}", &old[source.len()..]), place));
     Ok(mounted_again(host, renamed, folder.is_some()))
 }
@@ -166,6 +162,7 @@ fn check_target(host: &Host, source: &str, target: &str) -> Outcome {
 mod tests {
     use super::*;
     use crate::host::tests::{host, make, snapshot};
+    use crate::property::Native;
 
     fn rename(host: &mut Host, source: &str, target: &str) -> Result<(), String> {
         host.change(|host| rename_file_system(host, source, target, Some("/"))).map(drop).map_err(|failure| failure.to_string())
@@ -184,6 +181,68 @@ mod tests {
         assert!(rename(&mut host, "tank/a", "tank/c").unwrap_err().ends_with("dataset already exists\n"));
         assert!(rename(&mut host, "tank/a", "tank/a/x").is_err());
         assert!(rename(&mut host, "tank/a", "other/x").unwrap_err().contains("within same pool"));
+    }
+
+    fn write(host: &mut Host, name: &str, block: u32, byte: u8) {
+        host.layer.write(&name::in_layer(name), 0, block, &[byte]).unwrap();
+    }
+
+    fn read(host: &mut Host, name: &str, block: u32) -> Option<u8> {
+        let path = host.open(name).unwrap().path;
+        host.layer.read(&path, 0, block).unwrap().map(|bytes| bytes[0])
+    }
+
+    /// With snapshots, a tag, a bookmark and a quota, and a clone beside it.
+    fn prepared() -> Host {
+        let mut host = host();
+        ["tank/a", "tank/a/b", "tank/x"].iter().for_each(|name| make(&mut host, name));
+        for (number, name) in ["tank/a@1", "tank/a@2", "tank/a/b@1"].iter().enumerate() {
+            write(&mut host, name::base(name), number as u32, number as u8 + 1);
+            snapshot(&mut host, name);
+        }
+        write(&mut host, "tank/a", 7, 7);
+        host.change(|host| {
+            host.hold("tank/a@1", "kept", 5).unwrap();
+            host.set_limit("tank/a", Native::Quota, "1000000").unwrap();
+            host.make_clone("tank/a@2", "tank/clone", 1).unwrap();
+            let from = host.open("tank/a@1").unwrap();
+            host.make_bookmark(&from, "tank/a", "m").map_err(|_| Failure::Silent)
+        })
+        .unwrap();
+        host
+    }
+
+    #[test]
+    fn all_of_a_file_system_goes_to_another_parent() {
+        let mut host = prepared();
+        let guids = ["tank/a@1", "tank/a@2"].map(|name| host.open(name).unwrap().guid());
+        rename(&mut host, "tank/a", "tank/x/c").unwrap();
+        assert_eq!(["tank/x/c@1", "tank/x/c@2"].map(|name| host.open(name).unwrap().guid()), guids);
+        assert_eq!([0, 1, 7].map(|block| read(&mut host, "tank/x/c", block)), [Some(1), Some(2), Some(7)]);
+        assert_eq!([0, 1, 7].map(|block| read(&mut host, "tank/x/c@1", block)), [Some(1), None, None]);
+        assert_eq!(read(&mut host, "tank/x/c/b@1", 2), Some(3));
+        assert_eq!(host.layer.number("get quota p/x/c"), Ok(1_000_448));
+        assert_eq!(host.origin("tank/clone").as_deref(), Some("tank/x/c@2"));
+        assert_eq!(host.layer.ask("list").unwrap(), "p p/clone p/x p/x/c p/x/c@1 p/x/c@2 p/x/c#5 p/x/c/b p/x/c/b@3");
+        // The tree is what the layer lists.
+        let before = format!("{:?}", host.tree);
+        host.follow_layer();
+        assert_eq!(format!("{:?}", host.tree), before);
+        host.change(|host| host.release("tank/x/c@1", "kept").map_err(|_| Failure::Silent)).unwrap();
+        rename(&mut host, "tank/clone", "tank/x/c/b/clone").unwrap();
+        assert_eq!(host.origin("tank/x/c/b/clone").as_deref(), Some("tank/x/c@2"));
+        assert_eq!([0, 7].map(|block| read(&mut host, "tank/x/c/b/clone", block)), [Some(1), None]);
+    }
+
+    #[test]
+    fn a_quota_above_the_new_place_is_kept() {
+        let mut host = prepared();
+        let used = host.layer.number("get used p/x").unwrap();
+        host.change(|host| host.set_limit("tank/x", Native::Quota, &(used + 512).to_string()).map_err(|_| Failure::Silent)).unwrap();
+        let before = (format!("{:?}", host.tree), host.layer.ask("list").unwrap());
+        assert_eq!(rename(&mut host, "tank/a", "tank/x/a").unwrap_err(), "cannot rename 'tank/a': out of space\n");
+        assert_eq!((format!("{:?}", host.tree), host.layer.ask("list").unwrap()), before);
+        rename(&mut host, "tank/a", "tank/b").unwrap();
     }
 
     #[test]

@@ -159,7 +159,7 @@ fn package_source(call: &Call, name: &str, source: &str) -> Outcome<String> {
     let (of, component) = source.split_once('@').unwrap_or(("", source));
     if !of.is_empty() && of != base {
         let (pool, whole) = (walk::open(call, base, Kinds::FV)?, base.to_owned());
-        let origin = pool.run(move |host| host.tree.whole(&whole).and_then(|it| host.origin(&it.path)))?;
+        let origin = pool.run(move |host| host.origin(&whole))?;
         return if origin.as_deref() == Some(source) { Ok(source.to_owned()) } else { usage("incremental source must be in same filesystem") };
     }
     match component {

@@ -2,7 +2,7 @@ use Rattle.std.proofs.Common.{map, ap, ◌∙◌, arith}
 use Rattle.std.specs.List.{flat_map}
 use Rattle.std.proofs.lemmas.List.{take_all}
 use Rattle.datasets.specs.Rows.{entry_in}
-use Rattle.removals.proofs.Shared.{shared_are}
+use Rattle.snap.proofs.Shared.{shared_are}
 use Rattle.images.specs.Roots.{own_roots}
 use Rattle.images.proofs.roots.roots_of.Goals as goal
 

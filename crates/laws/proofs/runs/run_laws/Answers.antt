@@ -1,6 +1,6 @@
 use Rattle.world.proofs.views.Runs.{run_grows, views_begin, views_last, views_stand}
 use Rattle.laws.proofs.Lasting.{run_splits, snapshots_keep}
-use Rattle.laws.proofs.Marks.{bookmark_made, bookmark_stands, bookmark_lasts}
+use Rattle.laws.proofs.Marks.{bookmark_made, bookmark_stands, bookmark_lasts, renames_carry}
 use Rattle.laws.proofs.Pools.{pools_are_viewing}
 use Rattle.laws.proofs.runs.run_laws.Goals as goal
 
@@ -33,3 +33,6 @@ returns-clause-bookmark_stands c = bookmark_stands
 
 pub returns-clause-bookmark_lasts : goal.returns-clause-bookmark_lasts
 returns-clause-bookmark_lasts c = bookmark_lasts
+
+pub returns-clause-renames_carry : goal.returns-clause-renames_carry
+returns-clause-renames_carry c = renames_carry

@@ -1,11 +1,11 @@
 use Rattle.std.proofs.Common.{◌&&◌, Bool, ap, ◌∙◌}
 use Rattle.std.specs.List.{list_any}
 use Rattle.datasets.specs.Rows.{Entry, entry_in}
-use Rattle.snap.specs.Taking.{is_in_family}
+use Rattle.model.specs.Hierarchy.{is_in_family}
 use Rattle.removals.specs.Families.{is_cloned_outside}
 use Rattle.removals.proofs.Outside.{asked_outside}
-use Rattle.removals.proofs.Shared.{shared_are}
-use Rattle.removals.proofs.Seen.{any_value}
+use Rattle.snap.proofs.Shared.{shared_are}
+use Rattle.snap.proofs.Shared.{any_value}
 use Rattle.removals.proofs.cloned.family_has_clone_outside.Goals as goal
 
 pub returns : goal.returns

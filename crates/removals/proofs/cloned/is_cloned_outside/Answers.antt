@@ -2,9 +2,9 @@ use Rattle.std.proofs.Common.{ℕ, List, Bool, not, ap, ◌∙◌}
 use Rattle.std.specs.List.{list_any}
 use Rattle.datasets.specs.CloneNames.{name_of}
 use Rattle.model.specs.World.{clones_of}
-use Rattle.snap.specs.Taking.{is_in_family}
+use Rattle.model.specs.Hierarchy.{is_in_family}
 use Rattle.world.specs.Tables.{world_of}
-use Rattle.removals.proofs.Seen.{any_value}
+use Rattle.snap.proofs.Shared.{any_value}
 use Rattle.removals.proofs.cloned.is_cloned_outside.Goals as goal
 
 pub returns : goal.returns

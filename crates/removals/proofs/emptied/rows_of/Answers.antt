@@ -1,8 +1,8 @@
 use Rattle.std.proofs.Common.{◌++◌, Bor, map, ap, ◌∙◌}
 use Rattle.std.specs.List.{filter}
 use Rattle.datasets.specs.Rows.{Row, Entry, entry_in, entry_of}
-use Rattle.snap.specs.Taking.{is_in_family}
-use Rattle.removals.proofs.Shared.{shared_are}
+use Rattle.model.specs.Hierarchy.{is_in_family}
+use Rattle.snap.proofs.Shared.{shared_are}
 use Rattle.removals.proofs.emptied.rows_of.Goals as goal
 
 pub loop-file_system-init : goal.loop-file_system-init

@@ -2,7 +2,7 @@ use Rattle.std.proofs.Common.{◌≡◌, ◌++◌, Bor, map, drop}
 use Rattle.std.specs.List.{filter}
 use Rattle.std.specs.FinMap.{entries}
 use Rattle.datasets.specs.Rows.{Row, Entry, entry_of, entry_in}
-use Rattle.snap.specs.Taking.{is_in_family}
+use Rattle.model.specs.Hierarchy.{is_in_family}
 use Rattle.removals.proofs.emptied.rows_of.Given as goal
 
 -- those so far, and those that are left

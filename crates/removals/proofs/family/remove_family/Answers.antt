@@ -1,9 +1,9 @@
 use Rattle.std.proofs.Common.{◌≡◌, sym, ap, subst, ◌∙◌, drop, map, length, arith}
 use Rattle.datasets.specs.Rows.{entry_in, entry_of}
-use Rattle.snap.specs.Taking.{is_in_family}
+use Rattle.model.specs.Hierarchy.{is_in_family}
 use Rattle.world.proofs.lists.Listed.{length-mapped}
 use Rattle.world.specs.Tables.{CanRemoveFileSystem, without_system}
-use Rattle.removals.proofs.Shared.{shared_are}
+use Rattle.snap.proofs.Shared.{shared_are}
 use Rattle.removals.proofs.Losses.{lost_none, lost_then}
 use Rattle.removals.proofs.SystemsGone.{left_by}
 use Rattle.removals.proofs.FamilyGone.{first_turn, last_turn, stays, can, goes}

@@ -6,7 +6,8 @@ use Rattle.shared_list.specs.Left.{left}
 use Rattle.datasets.specs.Dead.{snaps_in}
 use Rattle.removals.specs.Needs.{is_held, is_held_after}
 use Rattle.removals.proofs.Yielded.{gt_is, yielded_all, yielded_front, snaps_yielded}
-use Rattle.removals.proofs.Seen.{any_pushed, any_here, any_value}
+use Rattle.removals.proofs.Seen.{any_pushed, any_here}
+use Rattle.snap.proofs.Shared.{any_value}
 use Rattle.removals.proofs.held.any_later_held.Goals as goal
 use Rattle.removals.proofs.held.any_later_held.Goals.{else-gt-via-then-gt+else-is_held, else-gt-via-else-gt}
 

@@ -2,7 +2,7 @@ use Rattle.std.proofs.Common.{◌+◌, map, drop, sym, ap, ◌∙◌, arith}
 use Rattle.datasets.specs.Rows.{entry_in, entry_of}
 use Rattle.snap.proofs.Rests.{next_left, none_left}
 use Rattle.removals.specs.Families.{without_origin}
-use Rattle.removals.proofs.Shared.{shared_are}
+use Rattle.snap.proofs.Shared.{shared_are}
 use Rattle.removals.proofs.Losses.{lost_none, lost_then}
 use Rattle.removals.proofs.Swept.{all_swept, once_here, without_origins}
 use Rattle.removals.proofs.sweep.sweep.Goals as goal

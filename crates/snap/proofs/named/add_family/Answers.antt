@@ -1,6 +1,6 @@
 use Rattle.std.proofs.Common.{◌≡◌, ◌+◌, ◌++◌, map, drop, sym, ap, ◌∙◌, arith, append-nil}
 use Rattle.std.specs.Arc.{arc_value}
-use Rattle.snap.specs.Taking.{is_in_family}
+use Rattle.model.specs.Hierarchy.{is_in_family}
 use Rattle.snap.proofs.Rests.{next_left, none_left}
 use Rattle.snap.proofs.Families.{members_of, with_member, without_member}
 use Rattle.snap.proofs.named.add_family.Goals as goal

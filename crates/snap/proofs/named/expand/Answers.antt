@@ -6,7 +6,7 @@ use Rattle.model.specs.requests.Snapshot.{named_with}
 use Rattle.datasets.specs.Rows.{Row}
 use Rattle.world.specs.Tables.{world_of}
 use Rattle.datasets.proofs.Children.{names_are}
-use Rattle.snap.specs.Taking.{is_in_family}
+use Rattle.model.specs.Hierarchy.{is_in_family}
 use Rattle.snap.proofs.Rests.{next_left}
 use Rattle.snap.proofs.Families.{grows}
 use Rattle.snap.proofs.named.expand.Goals as goal

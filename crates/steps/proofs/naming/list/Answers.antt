@@ -1,4 +1,4 @@
-use Rattle.removals.proofs.Shared.{shared_are}
+use Rattle.snap.proofs.Shared.{shared_are}
 use Rattle.steps.proofs.questions.Reading.{names_listed, names_refused}
 use Rattle.steps.proofs.naming.list.Goals as goal
 

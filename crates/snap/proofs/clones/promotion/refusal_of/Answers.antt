@@ -6,8 +6,8 @@ use Rattle.world.proofs.changes.Promotions.{promotion_is}
 use Rattle.datasets.proofs.Removed.{rising_at}
 use Rattle.snap.proofs.clones.promotion.refusal_of.Goals as goal
 
-pub any_too_long-requires : goal.any_too_long-requires
-any_too_long-requires c =
+pub any_long_upto-requires : goal.any_long_upto-requires
+any_long_upto-requires c =
     rising_at c.args.table.now (record { systems = c.facts.ensures.good; numbers = c.facts.ensures.numbers }) c.in-Some.owner.now.name c.in-Some.owner.now.system
     (promotion_is (world_of c.args.table.now) c.args.name.now (promotion_between c.in-Some.clone.now c.in-Some.owner.now (snap_id c.in-Some.origin)) (sym c.in-Some.ensures)).owner_at
 

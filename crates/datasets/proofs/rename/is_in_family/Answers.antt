@@ -1,11 +1,12 @@
 use Rattle.std.proofs.Common.{sym, ap, ◌∙◌}
-use Rattle.snap.proofs.Families.{begins, begins_not, ends_component, first_byte}
-use Rattle.snap.proofs.named.is_in_family.Goals as goal
+use Rattle.datasets.proofs.Families.{begins, begins_not, first_byte}
+use Rattle.world.proofs.lists.Names.{goes_on}
+use Rattle.datasets.proofs.rename.is_in_family.Goals as goal
 
 pub returns-in-Some-len1-up : goal.returns-in-Some-len1-up
 returns-in-Some-len1-up c =
     first_byte c.in-Some-len1-up.field-0.now c.in-Some-len1-up.len_at_least
-    ∙ ap ends_component c.in-Some-len1-up.ensures.cases.1
+    ∙ ap goes_on c.in-Some-len1-up.ensures.cases.1
     ∙ sym (begins c.args.ancestor.now c.args.name.now c.in-Some-len1-up.ensures.cases.0)
 
 pub returns-in-None : goal.returns-in-None
