@@ -9,6 +9,7 @@ use Rattle.base.specs.Names.{name_cmp, name_limit}
 use Rattle.base.specs.Surveys.{IsIn}
 use Rattle.base.specs.declared.refusal.Refusal.{Refusal}
 use Rattle.model.specs.World.{FileSystem}
+use Rattle.file_system.specs.Deferred.{edited_of, with_snap_name}
 use Rattle.model.specs.Hierarchy.{is_in_family}
 use Rattle.model.specs.Rule.{first_of}
 use Rattle.model.specs.requests.Rename.{renamed, with_renamed, renaming_row}
@@ -47,3 +48,7 @@ pub record AreMoved (from to : List ℕ) (old new : List Owner) (clones : CloneS
   pub all : (o : Row) → IsIn (map arc_value old) o → IsIn (map arc_value new) (moved_row from to o)
   pub counted : length (flat_map (λ e. e.1.snaps) (map entry_in new)) ≡ length (flat_map (λ e. e.1.snaps) (map entry_in old))
   pub listed : IsListed (from_sorted {R = name_cmp} (map entry_in new)) clones
+
+-- the snapshot of this group of this file system under another name (zfs-rename(8))
+abbrev pub with_snap_named : Datasets → List ℕ → ℕ → List ℕ → Datasets
+with_snap_named t name group to = record t { file_systems = edited_of (with_snap_name to) t.file_systems name group }

@@ -26,8 +26,11 @@ use Rattle.world.specs.Dead.{base_of, HasNoCloneIn}
 use Rattle.world.proofs.removals.Rollbacks.{rollback_world, rollback_pairs, rollback_seen}
 use Rattle.world.proofs.changes.Creations.{clone_keeps, clone_pairs}
 use Rattle.model.specs.requests.Rename.{with_renamed}
+use Rattle.model.specs.requests.RenameSnapshot.{with_snaps_renamed}
 use Rattle.world.proofs.changes.Promotions.{promote_world, promote_pairs, promote_there}
 use Rattle.world.proofs.changes.Renames.{CanRename, rename_world, rename_pairs, renamed_there}
+use Rattle.world.proofs.changes.SnapNames.{named_world, named_pairs, named_there}
+use Rattle.world.proofs.views.ViewedSnapNames.{CanRenameSnaps}
 use Rattle.world.proofs.steps.SnapshotLists.{snapshots_keep, snapshots_pair, snapshots_there}
 use Rattle.world.proofs.changes.Plans.{plan_world, plan_pairs}
 use Rattle.world.specs.Shapes.{Name, name_order}
@@ -180,6 +183,13 @@ pub rename_before : (s : State) → IsPoolState s → (from to : Name) → CanRe
 rename_before s good from to can = now_keeps s good (with_renamed s.now from to)
     (rename_world s.now good.now.systems from to can s.size good.now) (rename_pairs s.now good.now.systems from to can s.size good.now s.last good.pair)
     (renamed_there s.now.file_systems from to can)
+
+-- ---- snapshots under another name
+
+pub rename_snapshots_before : (s : State) → IsPoolState s → (m : Member) (to : List ℕ) (recursive : Bool) → CanRenameSnaps s.now s.views m to recursive → IsPoolState (with_now s (with_snaps_renamed s.now m to recursive))
+rename_snapshots_before s good m to recursive can = now_keeps s good (with_snaps_renamed s.now m to recursive)
+    (named_world m to recursive s.now can.free s.size good.now) (named_pairs m to recursive s.now can.free s.size good.now s.last good.pair)
+    (named_there m to recursive s.now)
 
 -- ---- snapshots destroyed, of which none has a clone or a view
 
