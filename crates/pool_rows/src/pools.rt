@@ -41,7 +41,7 @@ impl Pools {
             "make" => self.make(place, rest, told),
             "alike" => self.alike(told),
             "same" => self.same(rest, told),
-            "destroys" | "rename" => self.asked(place, "apply", row, told),
+            "destroys" | "rename" | "rename_snapshot" => self.asked(place, "apply", row, told),
             _ => self.asked(place, word, rest, told),
         }
     }
