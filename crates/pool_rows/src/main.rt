@@ -18,6 +18,7 @@
 //! | `0 walks now`, `0 walks last` | how many datasets the present or the last synced world has, how many leaves their walks in the image find, and a sum of all |
 //! | `0 root` | the birth of the first dataset's root, the digits of its first pointer behind the block's number, and how many bytes behind that pointer aren't zero |
 //! | `0 keeps` | how often the image was told the numbers that it keeps, which is once a sync |
+//! | `0 meters` | how many nodes of trees the pool's requests have reached, and how many segments and entries of dead lists |
 //! | `0 alike` | whether the other pool has the same blocks at the same numbers, in both worlds |
 //! | `0 same LINE; LINE` | whether two lines ask the same |
 //!
