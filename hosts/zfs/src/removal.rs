@@ -133,7 +133,7 @@ impl Host {
     /// Takes a bookmark away, and the layer's with the last that stands for it.
     pub fn remove_bookmark(&mut self, dataset: &Dataset) -> Result<(), Refusal> {
         let Part::Bookmark(bookmark) = &dataset.part else { return Err(Refusal::NoDataset) };
-        let others = dataset.base.bookmarks.iter().filter(|it| it.component == bookmark.component).count();
+        let others = dataset.base.bookmarks.iter().filter(|it| it.number == bookmark.number).count();
         if others <= 1 {
             self.layer.order(&format!("destroy {}", dataset.path))?;
         }
