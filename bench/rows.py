@@ -171,10 +171,11 @@ class Zfsp:
 
     def run(self, case):
         case.fault(self)
-        script = b"".join(it + b"\n" for it in self.asked)
-        done = subprocess.run([self.program, str(case.blocks), str(case.number)], input=script, capture_output=True, check=True)
-        self.told = iter(done.stdout.decode().splitlines())
-        return case.fault(self) or (f"{case.name}: more replies than lines" if next(self.told, None) is not None else "")
+        status, self.told = told(self.asked, self.program, str(case.blocks), str(case.number))
+        wrong = case.fault(self)
+        if not wrong and (status or next(self.told, None) is not None):
+            return f"{case.name}: status {status}, or more replies than lines"
+        return wrong
 
     def answer(self, line, _wanted=None):
         if self.told is None:
@@ -198,10 +199,9 @@ class PoolRows:
         for pool in "01":
             self.tell(f"{pool} make {case.number} {case.blocks}".encode())
         case.fault(self)
-        done = subprocess.run([self.program], input=b"".join(it + b"\n" for it in self.rows), capture_output=True, check=True)
-        self.told = iter(done.stdout.decode().splitlines())
+        status, self.told = told(self.rows, self.program)
         made = [self.tell(b"") for _ in "01"]
-        return case.fault(self) if made == ["ok", "ok"] else f"{case.name}: no pool"
+        return case.fault(self) if (status, made) == (0, ["ok", "ok"]) else f"{case.name}: status {status}, pools {made}"
 
     def tell(self, row):
         """What a row tells."""
@@ -240,6 +240,12 @@ class PoolRows:
             if self.told is not None and not (least <= nodes <= most and segments <= few):
                 return wrong or f"{row.line.decode()}: reached {nodes} nodes and {segments} segments, wanted {row.meters}"
         return wrong
+
+
+def told(lines, *command):
+    """The status of a program that is asked these lines, and the lines that it prints."""
+    done = subprocess.run(command, input=b"".join(it + b"\n" for it in lines), stdout=subprocess.PIPE, check=False)
+    return done.returncode, iter(done.stdout.decode().splitlines())
 
 
 def padded(word):
