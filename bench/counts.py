@@ -40,7 +40,7 @@ CLAIMS = (
     ("docs/AUDIT.md", "{bodies} wrong bodies of {crates with bodies} crates"),
     ("docs/CONTRIBUTING.md", "There are {must-fail}, in {crates with must-fail} crates"),
     ("docs/GATE.md", "the {bodies} wrong bodies of {crates with bodies} crates"),
-    ("docs/GATE.md", "the {cases} cases of `crates/rows/data` and the {scripts} scripts of `examples/`"),
+    ("docs/GATE.md", "the {cases} cases of `rows/` and the {scripts} scripts of `examples/`"),
     ("docs/GATE.md", "each of the {crates} crates is proved"),
     ("docs/GATE.md", "the {must-fail} wrong bodies of `must-fail/`"),
     ("docs/GATE.md", "the {examples} examples"),

@@ -401,6 +401,19 @@ class State:  # never changed in place: a request makes a new state
         refuse("BadName", to.system.startswith(f"{name}/") or any(len(it) > LONGEST for it in new.list()[0].split(" ")))
         return "ok", new.within_limits()
 
+    def rename_snapshot(self, recursive, target, to):
+        """Gives a snapshot another name, with -r also those of its name in the family. A new name is a component. No line asks it."""
+        w, name, old = self.now, target.system, target.component
+        refuse("NoDataset", not w.named(target))
+        changed = {it: w.systems[it].snaps for it in (w.family(name) if recursive else [name]) if old in w.systems[it].snaps}
+        refuse("BadName", any(len(f"{it}@{to}") > LONGEST for it in changed))
+        refuse("Exists", any(to in snaps for snaps in changed.values()))
+        refuse("Busy", any(snaps[old].id in self.views.values() for snaps in changed.values()))
+        new = self
+        for it, snaps in changed.items():
+            new = new.with_system(it, snaps={t.name: t for t in (replace(t, name=to) if t.name == old else t for t in snaps.values())})
+        return "ok", new
+
     def destroy(self, recursive, defer, target):
         """Destroys a file system, a snapshot or a bookmark. What no dataset has any more is to be freed."""
         if target.mark == "@":

@@ -13,10 +13,10 @@ With a built program it asks more rows than a file has:
 
 - each beginning of a stream, each stream that differs in one byte, and one that goes on, is refused as BadStream and changes nothing;
 - after each line of random scripts both worlds are walked in the image as the plain machine has them;
-- each request for memory of a script with each kind of request, of one with destroys of several snapshots, and of one with renames, is refused in
-  turn, at once and in two steps. The line that is told NoMemory has changed nothing: all lines after it, and all that can be asked of the pool, are
-  answered as if it were left out. Asked again it is answered as ever, and in the end the pool has the same blocks at the same numbers as one that
-  was never refused memory. With --gate one request of thirty is refused, chosen by the digest of HEAD's tree.
+- each request for memory of a script with each kind of request, of one with destroys of several snapshots, and of two with renames, is refused
+  in turn, at once and in two steps. The line that is told NoMemory has changed nothing: all lines after it, and all that can be asked of the pool,
+  are answered as if it were left out. Asked again it is answered as ever, and in the end the pool has the same blocks at the same numbers as one
+  that was never refused memory. With --gate one request of thirty is refused, chosen by the digest of HEAD's tree.
 
 Anything else is printed, and the exit status is 1.
 """
@@ -36,7 +36,7 @@ from types import SimpleNamespace
 import plain
 import refused
 from judge import Judge
-from row_words import MASK, destroyed, error, mixed, received, renamed
+from row_words import MASK, destroyed, error, mixed, received, renamed, snapshot_renamed
 from wrong_bodies import order_of_tree
 
 ROOT = Path(__file__).resolve().parent.parent
@@ -110,8 +110,15 @@ def renamed_by(state, words):
     return renamed(state, name, to)
 
 
+def snapshot_renamed_by(state, words):
+    """What becomes of a rename of a snapshot, `NAME TO [-r]`."""
+    name, _, words = words.partition(" ")
+    to, _, option = words.partition(" ")
+    return snapshot_renamed(state, name, to, option == "-r")
+
+
 # Requests that no line of a script asks, by the word that such a line of a row begins with.
-OTHERS = {"destroys": destroyed_by, "rename": renamed_by}
+OTHERS = {"destroys": destroyed_by, "rename": renamed_by, "rename_snapshot": snapshot_renamed_by}
 
 
 def lawful(state, line):
@@ -234,7 +241,8 @@ write p/b 1 4095 69,write p/c 0 1 70,punch p 0 0,punch p 0 1,punch p/a 0 0,punch
 rmobj p/b 1,create p/a,create p/a/d,snapshot p@1,snapshot p@2,snapshot p/a@1,snapshot -r p@3,snapshot p/b@1,clone p@1 p/b,clone p/a@1 p/b,
 clone p@3 p/c,promote p/b,promote p/c,rollback p@1,rollback -r p@1,rollback -r p/a@1,destroy p@1,destroy -d p@2,destroy -r p@3,destroy -r p/a,
 destroy p/b,destroy p/c,hold t p@2,release t p@2,slice 5,slice 100,sync,sync,abandon,write p 0 0 71,rename p/b p/a,rename p/b p/a/e,rename p/a p/b,
-rename p/a p/c,rename p/c p/a-x,rename p/a-x p/a,rename p/b/d p/a/d""".replace("\n", "").split(",")
+rename p/a p/c,rename p/c p/a-x,rename p/a-x p/a,rename p/b/d p/a/d,rename_snapshot p@1 4,rename_snapshot p@4 2,rename_snapshot p@3 1 -r,
+rename_snapshot p/a@1 3 -r,rename_snapshot p/b@1 2,rename_snapshot p/a@3 1""".replace("\n", "").split(",")
 
 
 def scripted(seed, count):
@@ -312,8 +320,17 @@ slice 100; sync; rename p/e/c p/c; snapshot p/c@2; rollback p/c@2; destroy -d p/
 destroy -r p/c; rename p/e p/a; list; slice 100; sync; write p/a 0 2 64"""
 
 
+# The same of snapshots.
+SNAPSHOT_RENAMES = """create p/a; create p/a/x; create p/a/y; write p/a 0 0 61; snapshot -r p/a@5; write p/a 0 0 62; snapshot p/a@6; snapshot p/a/x@7;
+rename_snapshot p/a@5 z; clone p/a@z p/c; clone p/a/x@5 p/a/x/in; hold t p/a@z; bookmark p/a@z p/a#m; view p/a@6; sync; rename_snapshot p/a/x@5 z;
+rename_snapshot p/a@z 1 -r; get origin p/c; get clones p/a@1; snapshot p/a@5; destroy -d p/a@1; unview 1; rename_snapshot p/a@6 4; list; abandon;
+rename_snapshot p/a@z 8; rename_snapshot p/a/y@5 6; rename_snapshot p/a@6 9 -r; get used p/a@9; promote p/c; rename_snapshot p/c@8 5 -r; list;
+write p/a 0 1 63; snapshot -r p/a@8; rollback -r p/a@9; sync; send -i p/a#m p/a@9; destroy -r p/a/x/in; destroys p/a@9 p/a/x@5;
+release t p/c@5; destroy -r p/a; rename_snapshot p/c@5 1; slice 100; sync; write p/c 0 2 64; list"""
+
+
 def each_of(text):
-    """The lines of LISTS or of RENAMES; each is done."""
+    """The lines of LISTS, of RENAMES or of SNAPSHOT_RENAMES; each is done."""
     lines, beside = text.replace("\n", " ").split("; "), Plain()
     beside.row("0 make 1 300")
     for line in lines:
@@ -434,7 +451,8 @@ def try_memory(machine, workers, share):
     is_wrong, receives = False, [it.encode() for it in each_mode()]
     is_wrong |= tried("receives in each mode", LeftOut(Asked(machine, b"apply"), receives), workers, share)
     is_wrong |= tried("receives in each mode, and again", AskedAgain(machine, beside(b"two", receives)), workers, share)
-    for what, lines in (("each kind of request", each_kind()), ("destroys of several snapshots", each_of(LISTS)), ("renames", each_of(RENAMES))):
+    lists = {"destroys of several snapshots": LISTS, "renames": RENAMES, "renames of snapshots": SNAPSHOT_RENAMES}
+    for what, lines in {"each kind of request": each_kind(), **{it: each_of(text) for it, text in lists.items()}}.items():
         lines = [it.encode() for it in lines]
         for way in (b"apply", b"two"):
             name = f"{what}, {'at once' if way == b'apply' else 'in two'}"

@@ -1,13 +1,13 @@
 #!/usr/bin/env python3
 """Asks pools of the library and the plain machine (bench/plain.py) the same random requests, receives in each mode, destroys of several snapshots
-and renames among them, and compares.
+and renames of file systems and of snapshots among them, and compares.
 
     python3 bench/receives.py [--first SEED] [--pools N] [--requests N]
 
 The pools are asked through the Python package over the shared library that `make` leaves in hosts/out (or the one that YUZGONT_LIBRARY names).
 A script's lines have two modes of a receive, and this tries all five, of streams that the pools send each other. A line destroys one snapshot, and
-this destroys lists of them, some with names that no snapshot has or that stand twice. No line renames a file system. It prints how often each was
-done or refused, and fails where a reply, a name, a size or a block is another than the plain machine's. A seed says all that is asked.
+this destroys lists of them, some with names that no snapshot has or that stand twice. No line renames a file system or a snapshot. It prints how
+often each was done or refused, and fails where a reply, a name, a size or a block is another than the plain machine's. A seed says all that is asked.
 """
 
 import argparse
@@ -18,7 +18,7 @@ from functools import partial
 from pathlib import Path
 
 from plain import fresh, lawful, parent_of, target_of, told_by
-from row_words import destroyed, received, renamed
+from row_words import destroyed, received, renamed, snapshot_renamed
 
 sys.path.insert(0, str(Path(__file__).resolve().parent.parent / "hosts" / "python"))
 from yuzgont import Pool, Receiving, Refusal  # noqa: E402
@@ -26,7 +26,8 @@ from yuzgont import Pool, Receiving, Refusal  # noqa: E402
 SYSTEMS, SNAPSHOTS, BLOCKS = "p p/a p/a/x p/b p/c".split(), "1234", (0, 1, 2, 16, 17, 300)
 PROPERTIES = "used available referenced written usedbysnapshots usedbydataset usedbychildren quota refquota reservation origin".split()
 POOL_PROPERTIES = "allocated free freeing waiting group".split()
-MODES, DESTROYS, RENAMES = "Plain Back Past Origin Replace".split(), "destroys of several snapshots", "renames"
+MODES, DESTROYS = "Plain Back Past Origin Replace".split(), "destroys of several snapshots"
+RENAMES, SNAPSHOT_RENAMES = "renames", "renames of snapshots"
 # What a file system may be renamed to: also what comes between two of SYSTEMS.
 NEW_NAMES = [*SYSTEMS, "p/a-x", "p/b/x"]
 
@@ -66,6 +67,11 @@ class Both:
         """Renames a file system on both; what came of it."""
         wanted, state = renamed(self.state, name, to)
         return self.compare(f"rename {name} {to}", partial(self.pool.rename, name, to), wanted, state)
+
+    def rename_snapshot(self, name, to, recursive):
+        """Renames a snapshot on both; what came of it."""
+        wanted, state = snapshot_renamed(self.state, name, to, recursive)
+        return self.compare(f"rename {name} {to}{' -r' * recursive}", partial(self.pool.rename_snapshot, name, to, recursive), wanted, state)
 
     def compare(self, what, ask, wanted, state):
         """Makes a call of the library, which is to be answered as wanted and to leave a state; what came of it."""
@@ -181,6 +187,24 @@ def rename(draw, pool, counts):
     counts[RENAMES, f"below {'the same' if parent_of(name) == parent_of(to) else 'another'} parent", told] += 1
 
 
+def rename_snapshot(draw, pool, counts):
+    """Renames a snapshot, mostly one that is there, and mostly to a name that is free there. First a snapshot of its name may be taken below,
+    or a view opened of it or of one of its name below, which is closed then."""
+    there = list(pool.snapshots())
+    name = draw.choice(there) if there and draw.random() < 0.8 else f"{draw.choice(SYSTEMS)}@{draw.choice(SNAPSHOTS)}"
+    system, component = name.split("@")
+    free, recursive = [it for it in SNAPSHOTS if f"{system}@{it}" not in there], draw.random() < 0.5
+    below, view = f"{draw.choice(pool.state.now.family(system) or [system])}@{component}", ""
+    if draw.random() < 0.5:
+        pool.line(f"snapshot {below}")
+    if draw.random() < 0.2:
+        view = pool.line(f"view {below}")
+    told = pool.rename_snapshot(name, draw.choice(free if free and draw.random() < 0.8 else SNAPSHOTS), recursive)
+    if view.isdigit():
+        pool.line(f"unview {view}")
+    counts[SNAPSHOT_RENAMES, "-r" if recursive else "no option", told] += 1
+
+
 def try_pools(seed, requests, counts):
     """Two pools, and so many requests of the one or the other."""
     draw = random.Random(seed)
@@ -196,6 +220,8 @@ def try_pools(seed, requests, counts):
                 destroy(draw, one, counts)
             elif which < 0.76:
                 rename(draw, one, counts)
+            elif which < 0.82:
+                rename_snapshot(draw, one, counts)
             else:
                 receive(draw, one, draw.choice(both), counts)
             if draw.random() < 0.1:
@@ -222,10 +248,11 @@ def main():
             print(found)
     for (what, kind, told), count in sorted(counts.items()):
         print(f"{what}, {kind}: {told} {count}")
-    missing = [it for it in (*MODES, DESTROYS, RENAMES) if not any(key[0] == it and key[2] == "ok" for key in counts)]
-    destroys, renames = (sum(count for key, count in counts.items() if key[0] == it) for it in (DESTROYS, RENAMES))
-    done = f"{sum(counts.values()) - destroys - renames} receives, {destroys} {DESTROYS} and {renames} {RENAMES} in {2 * options.pools} pools"
-    print(f"{done}, {len(wrong)} of {options.pools} seeds wrong" + "".join(f", {it} never done" for it in missing))
+    others = (DESTROYS, RENAMES, SNAPSHOT_RENAMES)
+    missing = [it for it in (*MODES, *others) if not any(key[0] == it and key[2] == "ok" for key in counts)]
+    sums = {it: sum(count for key, count in counts.items() if key[0] == it) for it in others}
+    done = f"{sum(counts.values()) - sum(sums.values())} receives, " + ", ".join(f"{count} {it}" for it, count in sums.items())
+    print(f"{done} in {2 * options.pools} pools, {len(wrong)} of {options.pools} seeds wrong" + "".join(f", {it} never done" for it in missing))
     sys.exit(bool(wrong or missing))
 
 

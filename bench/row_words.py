@@ -43,6 +43,12 @@ def renamed(state, name, to):
     return ("BadName", state) if None in targets else answered(state, state.rename, *targets)
 
 
+def snapshot_renamed(state, name, to, recursive):
+    """The same of a rename of a snapshot."""
+    target = target_of(name, ("@",))
+    return answered(state, state.rename_snapshot, recursive, target, to) if target and is_component(to) else ("BadName", state)
+
+
 def yes(is_so):
     return "yes" if is_so else "no"
 

@@ -94,9 +94,22 @@ def reply(copy):
     return *copy.python("bench/examples.py", ZFSP), "first: "
 
 
+def reply_of_a_row(copy):
+    """A row that each program gives otherwise, and a request that reaches more than its row says."""
+    copy.edit("rows/write.rows", r" => ok$", " => error 9 HasClones")
+    copy.edit("rows/meters.rows", r"^meters 6 36 36$", "meters 6 7 36")
+    said = ""
+    for words in ((ZFSP, "--only", "write"), (ZFSP, ROWS["pool_rows"], "--only", "meters")):
+        status, told = copy.python("bench/rows.py", *words)
+        if not status:
+            return status, told
+        said += told
+    return 1, said, "write.rows, zfsp", "meters.rows, pool_rows"
+
+
 def reply_by_definition(copy):
     copy.edit("examples/first.replies", r"\Aok$", "error 9 HasClones")
-    copy.edit("crates/rows/data/write.rows", r" => ok$", " => error 9 HasClones")
+    copy.edit("rows/write.rows", r" => ok$", " => error 9 HasClones")
     status, said = copy.python("bench/rows.py")
     return status, said, "write.rows", "first.script"
 
@@ -252,6 +265,7 @@ def machine_twice(copy):
 
 BROKEN = {
     "a reply of an example": (reply, ZFSP),
+    "a reply of a row": (reply_of_a_row, ROWS["pool_rows"]),
     "a row, and a reply by the definition": (reply_by_definition, None),
     "rows that no plain value tells so": (rows_told, None),
     "a reply that a refused request changes": (changed_by_refusal, ROWS["session_rows"]),

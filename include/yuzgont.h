@@ -182,6 +182,7 @@ int32_t yuzgont_destroy(yuz_pool *pool, const uint8_t *name, size_t name_length,
 int32_t yuzgont_destroy_snapshots(yuz_pool *pool, const uint8_t *names, size_t names_length, bool recursive, bool defer);
 int32_t yuzgont_promote(yuz_pool *pool, const uint8_t *name, size_t name_length);
 int32_t yuzgont_rename(yuz_pool *pool, const uint8_t *name, size_t name_length, const uint8_t *to, size_t to_length);
+int32_t yuzgont_rename_snapshot(yuz_pool *pool, const uint8_t *name, size_t name_length, const uint8_t *to, size_t to_length, bool recursive);
 int32_t yuzgont_rollback(yuz_pool *pool, const uint8_t *snapshot, size_t snapshot_length, bool later);
 int32_t yuzgont_bookmark(yuz_pool *pool, const uint8_t *snapshot, size_t snapshot_length, const uint8_t *mark, size_t mark_length);
 int32_t yuzgont_hold(yuz_pool *pool, const uint8_t *tag, size_t tag_length, const uint8_t *snapshot, size_t snapshot_length);
@@ -337,6 +338,14 @@ static inline int yuz_promote(yuz_pool *pool, const char *name, size_t name_leng
 static inline int yuz_rename(yuz_pool *pool, const char *name, size_t name_length, const char *to, size_t to_length) {
     if (pool == NULL || yuz_is_wrong(name, name_length) || yuz_is_wrong(to, to_length)) return YUZ_NULL;
     return yuzgont_rename(pool, yuz_bytes(name), name_length, yuz_bytes(to), to_length);
+}
+
+/* Renames a snapshot within its file system: `name` is its whole name, and `to` the new part after the `@`. With `recursive` the snapshots of its
+ * name in all file systems below are renamed too; one that has none stays as it is. YUZ_EXISTS where one of these file systems has a snapshot of the
+ * new name, and YUZ_BUSY while a view of one that would be renamed is open. */
+static inline int yuz_rename_snapshot(yuz_pool *pool, const char *name, size_t name_length, const char *to, size_t to_length, bool recursive) {
+    if (pool == NULL || yuz_is_wrong(name, name_length) || yuz_is_wrong(to, to_length)) return YUZ_NULL;
+    return yuzgont_rename_snapshot(pool, yuz_bytes(name), name_length, yuz_bytes(to), to_length, recursive);
 }
 
 /* Makes a file system as this snapshot of it is, which must be the newest one unless `later` is set. With `later` newer snapshots and bookmarks

@@ -215,6 +215,82 @@ static void try_renames_within_limits(void) {
     yuz_free(&pool);
 }
 
+/* A pool with p/a, p/a@s, p/a@t, p/a/x without snapshots, p/a/x/y, p/a/x/y@s, and a clone p/c of p/a@s with p/c@s. */
+static void prepare_below(yuz_pool *pool) {
+    prepare(pool);
+    done("create_file_system", yuz_create_file_system(pool, NAME("p/a/x")));
+    done("create_file_system", yuz_create_file_system(pool, NAME("p/a/x/y")));
+    write_block(pool, "p/a/x/y", 0, 0, 99);
+    done("snapshot", yuz_snapshot(pool, NAME("p/a/x/y@s"), false));
+    done("snapshot", yuz_snapshot(pool, NAME("p/c@s"), false));
+}
+
+/* A rename of a snapshot changes its name alone, and with `recursive` the names of those below. */
+static void try_renames_of_snapshots(void) {
+    yuz_pool pool = YUZ_NO_POOL;
+    uint64_t view = 0, guid = 0, renamed = 0;
+    prepare_below(&pool);
+    done("hold", yuz_hold(&pool, NAME("kept"), NAME("p/a@s")));
+    done("bookmark", yuz_bookmark(&pool, NAME("p/a@s"), NAME("p/a#s")));
+    done("get", yuz_get(&pool, NAME("p/a@s"), YUZ_GUID, &guid));
+    done("rename_snapshot", yuz_rename_snapshot(&pool, NAME("p/a@s"), NAME("u"), false));
+    expect_line(&pool, "list", "p p/a p/a@u p/a@t p/a#s p/a/x p/a/x/y p/a/x/y@s p/c p/c@s");
+    expect_line(&pool, "holds p/a@u", "kept");
+    expect_line(&pool, "get origin p/c", "p/a@u");
+    expect_line(&pool, "get clones p/a@u", "p/c");
+    expect_line(&pool, "read p/a@u 0 1", "hole");
+    done("get", yuz_get(&pool, NAME("p/a@u"), YUZ_GUID, &renamed));
+    if (renamed != guid) wrong("another guid", 0);
+    told_so("the old name", yuz_hold(&pool, NAME("kept"), NAME("p/a@s")), YUZ_NO_DATASET);
+    done("rename_snapshot back", yuz_rename_snapshot(&pool, NAME("p/a@u"), NAME("s"), true));
+    done("rename_snapshot below", yuz_rename_snapshot(&pool, NAME("p/a@s"), NAME("v"), true));
+    expect_line(&pool, "list", "p p/a p/a@v p/a@t p/a#s p/a/x p/a/x/y p/a/x/y@v p/c p/c@s");
+    expect_line(&pool, "holds p/a@v", "kept");
+    expect_line(&pool, "get origin p/c", "p/a@v");
+    done("open_view", yuz_open_view(&pool, NAME("p/a@t"), &view));
+    done("beside a view", yuz_rename_snapshot(&pool, NAME("p/a@v"), NAME("w"), true));
+    expect_line(&pool, "list", "p p/a p/a@w p/a@t p/a#s p/a/x p/a/x/y p/a/x/y@w p/c p/c@s");
+    done("close_view", yuz_close_view(&pool, view));
+    done("abandon", yuz_abandon(&pool));
+    expect_line(&pool, "list", "p p/a p/a@s p/a@t p/c");
+    yuz_free(&pool);
+}
+
+/* What refuses a rename of a snapshot. */
+static void try_refused_renames_of_snapshots(void) {
+    yuz_pool pool = YUZ_NO_POOL;
+    uint64_t view = 0;
+    char name[YUZ_NAME_SIZE];
+    memset(name, 'l', sizeof name);
+    prepare_below(&pool);
+    done("snapshot", yuz_snapshot(&pool, NAME("p/a/x/y@w"), false));
+    done("open_view", yuz_open_view(&pool, NAME("p/a/x/y@s"), &view));
+    told_so("no such snapshot", yuz_rename_snapshot(&pool, NAME("p/a@u"), NAME("v"), false), YUZ_NO_DATASET);
+    told_so("no such file system", yuz_rename_snapshot(&pool, NAME("p/b@s"), NAME("v"), false), YUZ_NO_DATASET);
+    told_so("none but below", yuz_rename_snapshot(&pool, NAME("p/a/x@s"), NAME("v"), true), YUZ_NO_DATASET);
+    told_so("a name that is taken", yuz_rename_snapshot(&pool, NAME("p/a@s"), NAME("t"), false), YUZ_EXISTS);
+    told_so("its own name", yuz_rename_snapshot(&pool, NAME("p/a@s"), NAME("s"), false), YUZ_EXISTS);
+    told_so("a name that is taken below", yuz_rename_snapshot(&pool, NAME("p/a@s"), NAME("w"), true), YUZ_EXISTS);
+    told_so("a view", yuz_rename_snapshot(&pool, NAME("p/a/x/y@s"), NAME("v"), false), YUZ_BUSY);
+    told_so("a view below", yuz_rename_snapshot(&pool, NAME("p/a@s"), NAME("v"), true), YUZ_BUSY);
+    told_so("a file system", yuz_rename_snapshot(&pool, NAME("p/a"), NAME("v"), false), YUZ_BAD_NAME);
+    told_so("a bookmark", yuz_rename_snapshot(&pool, NAME("p/a#s"), NAME("v"), false), YUZ_BAD_NAME);
+    told_so("a whole new name", yuz_rename_snapshot(&pool, NAME("p/a@s"), NAME("p/a@v"), false), YUZ_BAD_NAME);
+    told_so("no name", yuz_rename_snapshot(&pool, NULL, 0, NAME("v"), false), YUZ_BAD_NAME);
+    told_so("no new name", yuz_rename_snapshot(&pool, NAME("p/a@s"), NULL, 0, false), YUZ_BAD_NAME);
+    told_so("a long name", yuz_rename_snapshot(&pool, NAME("p/a@s"), name, 252, false), YUZ_BAD_NAME);
+    told_so("a long name below", yuz_rename_snapshot(&pool, NAME("p/a@s"), name, 248, true), YUZ_BAD_NAME);
+    told_so("no text", yuz_rename_snapshot(&pool, NULL, 1, NAME("v"), false), YUZ_NULL);
+    told_so("no new text", yuz_rename_snapshot(&pool, NAME("p/a@s"), NULL, 1, false), YUZ_NULL);
+    told_so("no handle", yuz_rename_snapshot(NULL, NAME("p/a@s"), NAME("v"), false), YUZ_NULL);
+    expect_line(&pool, "list", "p p/a p/a@s p/a@t p/a/x p/a/x/y p/a/x/y@s p/a/x/y@w p/c p/c@s");
+    done("close_view", yuz_close_view(&pool, view));
+    done("the longest name below", yuz_rename_snapshot(&pool, NAME("p/a@s"), name, 247, true));
+    done("the longest name", yuz_rename_snapshot(&pool, NAME("p/a@t"), name, 251, false));
+    yuz_free(&pool);
+    told_so("no pool", yuz_rename_snapshot(&pool, NAME("p/a@s"), NAME("v"), false), YUZ_POOL_MISSING);
+}
+
 /* Limits, and numbers of datasets and of the pool. */
 static void try_numbers(void) {
     static const char *const words[] = {"pget size", "pget allocated", "pget free", "pget freeing", "pget waiting", "pget group"};
@@ -405,6 +481,7 @@ static int do_destroy(yuz_pool *pool) { return yuz_destroy(pool, NAME("p/c"), tr
 static int do_destroys(yuz_pool *pool) { return yuz_destroy_snapshots(pool, NAME("p/a@s p/a@t"), false, true); }
 static int do_promote(yuz_pool *pool) { return yuz_promote(pool, NAME("p/c")); }
 static int do_rename(yuz_pool *pool) { return yuz_rename(pool, NAME("p/a"), NAME("p/c/a")); }
+static int do_rename_snapshot(yuz_pool *pool) { return yuz_rename_snapshot(pool, NAME("p/a@s"), NAME("u"), true); }
 static int do_rollback(yuz_pool *pool) { return yuz_rollback(pool, NAME("p/a@t"), false); }
 static int do_bookmark(yuz_pool *pool) { return yuz_bookmark(pool, NAME("p/a@t"), NAME("p/a#m")); }
 static int do_hold(yuz_pool *pool) { return yuz_hold(pool, NAME("kept"), NAME("p/a@t")); }
@@ -474,10 +551,10 @@ static char *told(yuz_pool *pool) {
 }
 
 /* Refuses each request for memory of one call on such a pool, until it makes fewer. Says how many those are. */
-static long refuse_each(const char *what, int (*call)(yuz_pool *)) {
+static long refuse_each(const char *what, void (*begin)(yuz_pool *), int (*call)(yuz_pool *)) {
     for (long at = 1;; at++) {
         yuz_pool pool = YUZ_NO_POOL;
-        prepare(&pool);
+        begin(&pool);
         char *before = told(&pool);
         requests = 0;
         refused_at = at;
@@ -502,19 +579,22 @@ int main(void) {
     static const struct {
         const char *what;
         int (*call)(yuz_pool *);
-    } each[] = {{"create", do_create}, {"clone", do_clone}, {"destroy", do_destroy}, {"destroy_snapshots", do_destroys}, {"promote", do_promote}, {"rename", do_rename}, {"rollback", do_rollback}, {"bookmark", do_bookmark}, {"hold", do_hold}, {"release", do_release}, {"set", do_set}, {"free_object", do_free_object}, {"open_view", do_view}, {"close_view", do_close}, {"written_since", do_written}, {"would_free", do_would_free}, {"pool_get", do_pool_get}, {"list", do_list}, {"holds", do_holds}, {"a line that changes", do_line}};
+    } each[] = {{"create", do_create}, {"clone", do_clone}, {"destroy", do_destroy}, {"destroy_snapshots", do_destroys}, {"promote", do_promote}, {"rename", do_rename}, {"rename_snapshot", do_rename_snapshot}, {"rollback", do_rollback}, {"bookmark", do_bookmark}, {"hold", do_hold}, {"release", do_release}, {"set", do_set}, {"free_object", do_free_object}, {"open_view", do_view}, {"close_view", do_close}, {"written_since", do_written}, {"would_free", do_would_free}, {"pool_get", do_pool_get}, {"list", do_list}, {"holds", do_holds}, {"a line that changes", do_line}};
     try_datasets();
     try_destroys();
     try_renames();
     try_refused_renames();
     try_renames_within_limits();
+    try_renames_of_snapshots();
+    try_refused_renames_of_snapshots();
     try_numbers();
     try_views();
     try_lists();
     try_streams();
     try_receives();
     printf("typed: %s, each call tells what its line tells; refused requests for memory:", yuz_version());
-    for (size_t i = 0; i < sizeof each / sizeof *each; i++) printf(" %s %ld", each[i].what, refuse_each(each[i].what, each[i].call));
+    for (size_t i = 0; i < sizeof each / sizeof *each; i++) printf(" %s %ld", each[i].what, refuse_each(each[i].what, prepare, each[i].call));
+    printf(" rename_snapshot of two %ld", refuse_each("rename_snapshot of two", prepare_below, do_rename_snapshot));
     printf("; nothing was changed\n");
     return 0;
 }

@@ -1,27 +1,26 @@
 -- The datasets that come next after a snapshot, in its file system and in its clones, and its space by their deadlists.
-use Rattle.std.proofs.Common.{◌≡◌, ℕ, true, false, List, [], ◌∷◌, ◌++◌, Option, Some, None, map, refl, sym, ap, subst, ◌∙◌, true≢false, inl, inr, ⊎_elim}
+use Rattle.std.proofs.Common.{◌≡◌, ℕ, List, [], ◌∷◌, ◌++◌, Some, map, refl, sym, ap, subst, ◌∙◌, inl, inr, ⊎_elim}
 use Rattle.std.specs.Prelude.{nat_lt}
 use Rattle.std.specs.List.{filter}
 use Rattle.std.specs.Option.{option_map_or}
-use Rattle.std.specs.FinMap.{get, entries}
+use Rattle.std.specs.FinMap.{get}
 use Rattle.std.specs.FinSet.{len, difference}
 use Rattle.base.specs.Map.{Block, BlockSet, blocks}
 use Rattle.base.specs.Surveys.{IsIn}
-use Rattle.model.specs.World.{World, FileSystem, Snap, SnapId, Dataset, Live, Snapped, id_of, same_id, map_of, map_of_snap, previous_of, clones_of}
+use Rattle.model.specs.World.{World, FileSystem, Snap, Dataset, Live, Snapped, id_of, map_of, map_of_snap, previous_of, clones_of}
 use Rattle.model.specs.Sums.{used_by_snap}
 use Rattle.world.specs.Sets.{Has}
 use Rattle.world.specs.Blocks.{block_order as o, after}
-use Rattle.world.specs.Shapes.{Name, name_order}
+use Rattle.world.specs.Shapes.{Name}
 use Rattle.world.specs.Worlds.{AreFileSystems, AreRising}
 use Rattle.world.specs.Dead.{IsThere, base_of, below_of, dead_of, next_in}
 use Rattle.world.proofs.lists.SetCounts.{same_members, in_difference, from_difference, in_intersection, from_intersection}
 use Rattle.world.proofs.lineage.Lineage.{in_after, from_after}
-use Rattle.world.proofs.lists.Maps.{same_value, at_entry}
+use Rattle.world.proofs.lists.Maps.{same_value}
 use Rattle.world.proofs.lists.Listed.{in_map, map_in}
-use Rattle.world.proofs.lists.Finding.{from_filter, same_id_is}
-use Rattle.world.proofs.steps.States.{in_clones}
+use Rattle.world.proofs.steps.States.{in_clones, from_clones}
 use Rattle.world.proofs.changes.Promotions.{append_assoc, after_is}
-use Rattle.world.proofs.lineage.Bridge.{start, rising, in_middle, one_snap, from_entries}
+use Rattle.world.proofs.lineage.Bridge.{start, rising, in_middle, one_snap}
 use Rattle.accounts.specs.Space.{AreNext, dead_in_each, oldest_in, without_each}
 use Rattle.accounts.proofs.Next.{newest_last, from_newest, next_there, next_previous, comes_next}
 use Rattle.accounts.proofs.Snapshots.{used_by_snap_is, in_each, from_each}
@@ -43,16 +42,6 @@ from_without_each w s (d ∷ ds) b h =
     (k.0, λ e i. ⊎_elim (λ is. subst (λ x. ¬ (Has (blocks (map_of w x)) b)) (sym is) k.1) (λ j. r.1 e j) i)
 
 -- ---- clones
-
-from_clones : (w : World) (id : SnapId) (q : Name) → IsIn (clones_of w id) q → (x : FileSystem) × (get w.file_systems q ≡ Some x) × (x.origin ≡ Some id)
-from_clones w id q h =
-    let e = in_map (λ (e : Name × FileSystem). e.0) (filter (λ (e : Name × FileSystem). option_map_or (same_id id) e.1.origin false) (entries w.file_systems)) q h in
-    let k = from_filter (λ (e : Name × FileSystem). option_map_or (same_id id) e.1.origin false) (entries w.file_systems) e.0 e.1 in
-    (e.0.1, ap (get w.file_systems) e.2 ∙ at_entry name_order w.file_systems e.0.0 e.0.1 (from_entries (entries w.file_systems) e.0 k.0), by_origin e.0.1.origin k.1)
-  where
-    by_origin : (y : Option SnapId) → option_map_or (same_id id) y false ≡ true → y ≡ Some id
-    by_origin None h = absurd (true≢false (sym h))
-    by_origin (Some i) h = ap Some (sym (same_id_is id i h))
 
 -- the oldest dataset of a file system that is there
 oldest_is : (w : World) (name : Name) (s : FileSystem) → get w.file_systems name ≡ Some s → oldest_in w name ≡ next_in name s.snaps

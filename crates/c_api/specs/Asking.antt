@@ -9,7 +9,7 @@ use Rattle.model.specs.declared.receiving.Receiving.TheVariants.{Plain, Back, Pa
 use Rattle.model.specs.declared.request.Property.{Property}
 use Rattle.model.specs.declared.request.PoolProperty.{PoolProperty}
 use Rattle.model.specs.declared.request.Request.{Request}
-use Rattle.model.specs.declared.request.Request.TheVariants.{Create, Write, Punch, FreeObject, Read, Get, Snapshot, Rollback, Destroy, Clone, Promote, Rename, OpenView, Hold, Release, Holds, Bookmark, WrittenSince, WouldFree, Set, Send, Receive}
+use Rattle.model.specs.declared.request.Request.TheVariants.{Create, Write, Punch, FreeObject, Read, Get, Snapshot, Rollback, Destroy, Clone, Promote, Rename, RenameSnapshot, OpenView, Hold, Release, Holds, Bookmark, WrittenSince, WouldFree, Set, Send, Receive}
 use Rattle.model.specs.requests.Destroy.{destroy_target_of}
 use Rattle.script.specs.Meaning.{snap_names_of}
 use Rattle.script.specs.Words.{words_of}
@@ -61,6 +61,10 @@ asked_promote name = option_map Promote (name_of name)
 -- a rename of a file system, and with it of all below it (zfs-rename(8), without -p and -u)
 abbrev pub asked_rename : List ℕ → List ℕ → Option Request
 asked_rename name to = option_and_then (λ n. option_map (λ t. Rename n t) (name_of to)) (name_of name)
+
+-- a rename of a snapshot, and with -r of those of its name in all file systems below (zfs-rename(8), -r)
+abbrev pub asked_rename_snapshot : List ℕ → List ℕ → Bool → Option Request
+asked_rename_snapshot name to recursive = option_and_then (λ m. option_map (λ t. RenameSnapshot m t recursive) (component_of to)) (snap_of name)
 
 -- a tag that a snapshot gets or loses (zfs-hold(8), zfs-release(8))
 abbrev pub asked_hold : List ℕ → List ℕ → Option Request

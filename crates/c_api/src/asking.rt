@@ -5,7 +5,7 @@ ghost use Rattle.std.specs.Option.{option_map};
 ghost use Rattle.base.specs.Reading.{Reads, snap_of};
 ghost use Rattle.model.specs.declared.receiving.Receiving.{Receiving};
 ghost use Rattle.c_api.specs.Asking.{asked_write, asked_punch, asked_read, asked_snapshot, asked_get, asked_send_from, asked_receive, mode_at, property_at};
-ghost use Rattle.c_api.specs.Asking.{asked_create, asked_free_object, asked_rollback, asked_destroy, asked_destroy_snapshots, asked_clone, asked_promote, asked_rename, asked_open_view};
+ghost use Rattle.c_api.specs.Asking.{asked_create, asked_free_object, asked_rollback, asked_destroy, asked_destroy_snapshots, asked_clone, asked_promote, asked_rename, asked_rename_snapshot, asked_open_view};
 ghost use Rattle.c_api.specs.Asking.{asked_hold, asked_release, asked_holds, asked_bookmark, asked_written_since, asked_would_free, asked_set};
 ghost use Rattle.c_api.specs.Asking.{pool_property_at, limit_at};
 
@@ -142,6 +142,24 @@ pub(crate) fn ask_rename(alloc: Global, name: &[u8], to: &[u8]) -> Result<Reques
     let name = DsName::read(alloc, name)?;
     let to = DsName::read(alloc, to)?;
     Ok(Request::Rename { name, to })
+}
+
+// Renames a snapshot; with `recursive` also those of its name in all file systems below.
+pub(crate) fn ask_rename_snapshot(
+    alloc: Global,
+    name: &[u8],
+    to: &[u8],
+    recursive: bool,
+) -> Result<Request, Refusal>
+    ensures { Reads result (asked_rename_snapshot name.now to.now recursive) }
+{
+    let snapshot = SnapName::read(alloc, name)?;
+    let to = Component::read(alloc, to)?;
+    Ok(Request::RenameSnapshot {
+        snapshot,
+        to,
+        recursive,
+    })
 }
 
 // Adds a hold with a tag to a snapshot.

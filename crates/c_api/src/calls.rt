@@ -1,6 +1,6 @@
 //! The calls on a handle. Each takes the pool out of it, makes the call of [`Host`] that it is named after, and puts the pool back.
 ghost use Rattle.std.specs.Prelude.{◌≡◌, Some, None, IfOk, IfErr};
-ghost use Rattle.c_api.specs.Asking.{asked_create, asked_clone, asked_destroy, asked_destroy_snapshots, asked_promote, asked_rename, asked_rollback, asked_snapshot, asked_bookmark, asked_hold, asked_release, asked_holds};
+ghost use Rattle.c_api.specs.Asking.{asked_create, asked_clone, asked_destroy, asked_destroy_snapshots, asked_promote, asked_rename, asked_rename_snapshot, asked_rollback, asked_snapshot, asked_bookmark, asked_hold, asked_release, asked_holds};
 ghost use Rattle.c_api.specs.Asking.{asked_punch, asked_free_object, asked_written_since, asked_would_free, mode_at, property_at, pool_property_at, limit_at};
 ghost use Rattle.script.specs.Words.{amount_of_bytes};
 ghost use Rattle.c_api.specs.Calls.{Calls, Creates, IsFresh, CanBe, CreateRefused, Does, Writes, ReadsBlock, TellsNumber, GetsOf, PoolGetsOf, SetsOf, ReceivesOf, Syncs, Slices, OpensView, Lists, NamesPiece, Sends, Answers, RepliesPiece, StreamsPiece, Forgotten};
@@ -250,6 +250,23 @@ impl YuzPool {
         ensures { Calls (Does (asked_rename name.now to.now)) self.old.slot.host result self.new.slot.host }
     {
         on_host!(alloc, self, |host| host.rename(name, to))
+    }
+
+    /// Renames a snapshot, as `Host::rename_snapshot`.
+    pub fn rename_snapshot(
+        &mut self,
+        alloc: Global,
+        name: &[u8],
+        to: &[u8],
+        recursive: bool,
+    ) -> Answer
+        ensures { Calls (Does (asked_rename_snapshot name.now to.now recursive)) self.old.slot.host result self.new.slot.host }
+    {
+        on_host!(
+            alloc,
+            self,
+            |host| host.rename_snapshot(name, to, recursive)
+        )
     }
 
     /// Rolls back to a snapshot, as `Host::rollback`.

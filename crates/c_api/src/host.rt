@@ -2,7 +2,7 @@
 ghost use Rattle.std.specs.Prelude.{◌≡◌, Option, Some, IfOk, IfErr, length};
 ghost use Rattle.model.specs.Step.{Step};
 ghost use Rattle.c_api.specs.Answers.{answer_of, number_in, view_in, names_in, stream_in};
-ghost use Rattle.c_api.specs.Asking.{asked_create, asked_clone, asked_destroy, asked_destroy_snapshots, asked_promote, asked_rename, asked_rollback, asked_snapshot, asked_bookmark, asked_hold, asked_release, asked_holds};
+ghost use Rattle.c_api.specs.Asking.{asked_create, asked_clone, asked_destroy, asked_destroy_snapshots, asked_promote, asked_rename, asked_rename_snapshot, asked_rollback, asked_snapshot, asked_bookmark, asked_hold, asked_release, asked_holds};
 ghost use Rattle.c_api.specs.Asking.{asked_punch, asked_free_object, asked_written_since, asked_would_free, mode_at, property_at, pool_property_at, limit_at};
 ghost use Rattle.script.specs.Words.{amount_of_bytes};
 ghost use Rattle.c_api.specs.Calls.{Does, Asks, KeepsResults, Writes, ReadsBlock, ReadInto, TellsNumber, GetsOf, PoolGetsOf, SetsOf, ReceivesOf, Syncs, Slices, OpensView, Lists, NamesPiece, Sends, Answers, number_told, Forgotten, IsFresh, CanBe, CreateRefused};
@@ -15,8 +15,8 @@ use crate::answer::Answer;
 use crate::asking::{
     ask_bookmark, ask_clone, ask_create, ask_destroy, ask_destroy_snapshots, ask_free_object,
     ask_get, ask_hold, ask_holds, ask_open_view, ask_promote, ask_punch, ask_read, ask_receive,
-    ask_release, ask_rename, ask_rollback, ask_send, ask_set, ask_snapshot, ask_would_free,
-    ask_write, ask_written_since, limit_of, mode_of, pool_property_of, property_of,
+    ask_release, ask_rename, ask_rename_snapshot, ask_rollback, ask_send, ask_set, ask_snapshot,
+    ask_would_free, ask_write, ask_written_since, limit_of, mode_of, pool_property_of, property_of,
 };
 use crate::pieces::copy_piece;
 use base::refusal::Refusal;
@@ -139,6 +139,14 @@ impl Host {
         ensures { Does (asked_rename name.now to.now) self.old result self.new }
     {
         let request = ask_rename(self.caller.alloc, name, to);
+        self.tell(request)
+    }
+
+    /// Renames a snapshot, as `Request::RenameSnapshot`. `name` is its whole name, and `to` the new part after the `@`.
+    pub fn rename_snapshot(&mut self, name: &[u8], to: &[u8], recursive: bool) -> Answer
+        ensures { Does (asked_rename_snapshot name.now to.now recursive) self.old result self.new }
+    {
+        let request = ask_rename_snapshot(self.caller.alloc, name, to, recursive);
         self.tell(request)
     }
 

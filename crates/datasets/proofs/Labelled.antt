@@ -95,10 +95,11 @@ module _ (t : Inside) (sound : IsSorted t) (m : FileSystems) (view : from_sorted
     here : entry_in a ≡ get_or rows i (entry_in a)
     here = row_of entry_in t.rows.items i a is
 
+    pub snaps_here : snaps_at m q ≡ (arc_value a).system.snaps
+    snaps_here = ap (λ (x : FileSystems). snaps_at x q) (sym view) ∙ snaps_are rows sound.sorted q i at (entry_in a) here
+
     pub snap_there : (g : ℕ) → IsSome (find (λ (u : Snap). u.group == g) (snaps_at m q)) → IsSome (find (λ (u : Snap). u.group == g) (arc_value a).system.snaps)
-    snap_there g h =
-        subst (λ (l : List Snap). IsSome (find (λ (u : Snap). u.group == g) l))
-        (ap (λ (x : FileSystems). snaps_at x q) (sym view) ∙ snaps_are rows sound.sorted q i at (entry_in a) here) h
+    snap_there g h = subst (λ (l : List Snap). IsSome (find (λ (u : Snap). u.group == g) l)) snaps_here h
 
     pub stands_above : IfSome (get m q) (AreAbove (below_at m q)) → AreAbove (arc_value a).below (arc_value a).system
     stands_above h =

@@ -3,6 +3,8 @@ use Rattle.std.proofs.Common.{◌≡◌, ℕ, zero, suc, ◌<◌, ◌≤◌, tru
 use Rattle.std.specs.Prelude.{IsTrue, MatchOption, is_some, nat_lt}
 use Rattle.std.specs.Bool.{passes}
 use Rattle.std.specs.Arc.{arc_value}
+use Rattle.std.specs.declared.sync.Arc.{Arc}
+use Rattle.std.specs.declared.alloc.Global.{Global}
 use Rattle.std.specs.List.{find, insert}
 use Rattle.std.specs.Option.{option_map, option_map_or, option_and_then}
 use Rattle.std.specs.FinMap as finmap
@@ -25,7 +27,7 @@ use Rattle.world.proofs.lists.Names.{exchanged, exchanged_twice}
 use Rattle.datasets.specs.CloneNames.{CloneSet, IsListed, with_origin, key_cmp}
 use Rattle.datasets.specs.Clones.{AreOnce, AreTied, IsTied, map_found}
 use Rattle.datasets.specs.Places.{IsGapFor}
-use Rattle.datasets.specs.Renames.{CanMove, Owner, moved_row, AreMoved}
+use Rattle.datasets.specs.Renames.{CanMove, moved_row, AreMoved}
 use Rattle.datasets.proofs.Rows.{same_name, insert_is, insert_sorted, row_of}
 use Rattle.datasets.proofs.Ties.{row_snaps, in_place, in_inserted, inserted_entries, row_got}
 use Rattle.datasets.proofs.Counts.{snaps_in, inserted_count}
@@ -68,18 +70,18 @@ flat_append (x ∷ xs) ys = ap (λ l. x.1.snaps ++ l) (flat_append xs ys) ∙ sy
 
 -- ---- a row more
 
-module _ (from to : Name) (all : List Owner) (sorted : IsTrue (is_sorted name_cmp (map entry_in all))) (can : CanMove (from_sorted {R = name_cmp} (map entry_in all)) from to) where
+module _ (from to : Name) (all : List (Arc Row Global)) (sorted : IsTrue (is_sorted name_cmp (map entry_in all))) (can : CanMove (from_sorted {R = name_cmp} (map entry_in all)) from to) where
   -- the names of rows aren't of the new family
   free_row : (r : Row) → IsIn (map arc_value all) r → is_in_family to r.name ≡ false
   free_row r h = can.free r.name r.system (row_got all sorted r h)
 
   -- and none becomes too long
-  pub row_short : (i : ℕ) (x : Owner) → i < length all → x ≡ get_or all i x → is_in_family from (arc_value x).name ≡ true → nat_lt name_limit (length (to ++ drop (length from) (arc_value x).name)) ≡ false
+  pub row_short : (i : ℕ) (x : Arc Row Global) → i < length all → x ≡ get_or all i x → is_in_family from (arc_value x).name ≡ true → nat_lt name_limit (length (to ++ drop (length from) (arc_value x).name)) ≡ false
   row_short i x lt is = can.short (arc_value x).name (arc_value x).system
       (row_got all sorted (arc_value x) (in_place (map arc_value all) i (arc_value x) (let l = length-map all arc_value in omega (arith, l)) (row_of arc_value all i x is)))
 
-  module _ (done rest : List Owner) (x : Owner) (parts : all ≡ done ++ x ∷ rest) (cur : List Owner) (clones : CloneSet) (moved : AreMoved from to done cur clones)
-      (a : Owner) (made : arc_value a ≡ moved_row from to (arc_value x)) where
+  module _ (done rest : List (Arc Row Global)) (x : Arc Row Global) (parts : all ≡ done ++ x ∷ rest) (cur : List (Arc Row Global)) (clones : CloneSet) (moved : AreMoved from to done cur clones)
+      (a : Arc Row Global) (made : arc_value a ≡ moved_row from to (arc_value x)) where
     abbrev row : Row
     row = arc_value x
 
@@ -107,7 +109,7 @@ module _ (from to : Name) (all : List Owner) (sorted : IsTrue (is_sorted name_cm
     pub key_absent : get (from_sorted {R = name_cmp} (map entry_in cur)) key ≡ None
     key_absent = ap (λ m. get m key) moved.named ∙ get-from_entries name_order.total (map (ren from to) (map entry_in done)) key ∙ unfound
 
-    module _ (i : ℕ) (gap : IsGapFor (map entry_in cur) key i) (new : List Owner) (new_is : map arc_value new ≡ insert (map arc_value cur) i (arc_value a))
+    module _ (i : ℕ) (gap : IsGapFor (map entry_in cur) key i) (new : List (Arc Row Global)) (new_is : map arc_value new ≡ insert (map arc_value cur) i (arc_value a))
         (listing : CloneSet) (listing_is : listing ≡ with_origin clones key row.system.origin) where
       long : i ≤ length (map arc_value cur)
       long = let w = gap.within in omega (arith, length-map cur entry_in, length-map cur arc_value)
@@ -159,7 +161,7 @@ module _ (from to : Name) (all : List Owner) (sorted : IsTrue (is_sorted name_cm
 
 -- ---- all rows
 
-module _ (from to : Name) (old new : List Owner) (clones : CloneSet) (moved : AreMoved from to old new clones) where
+module _ (from to : Name) (old new : List (Arc Row Global)) (clones : CloneSet) (moved : AreMoved from to old new clones) where
   -- they have the same snapshots
   snaps_stay : (t : Snap) → IsIn (row_snaps (map arc_value old)) t → IsIn (row_snaps (map arc_value new)) t
   snaps_stay t h =

@@ -5,8 +5,9 @@ use Rattle.std.specs.FinMap.{entries}
 use Rattle.base.specs.Names.{name_limit, is_descendant}
 use Rattle.base.specs.declared.refusal.Refusal.TheVariants.{BadName}
 use Rattle.model.specs.World.{FileSystem}
+use Rattle.model.specs.Lengths.{has_long}
 use Rattle.model.specs.Hierarchy.{is_in_family}
-use Rattle.model.specs.requests.Rename.{renamed, is_too_long, has_long_renamed, renaming_row}
+use Rattle.model.specs.requests.Rename.{renamed, has_long_renamed, renaming_row}
 use Rattle.world.specs.Tables.{Datasets, world_of}
 use Rattle.world.specs.Shapes.{Name, name_order}
 use Rattle.world.proofs.changes.Renames.{new_apart, old_apart, rename_systems, renamed_from}
@@ -34,12 +35,12 @@ module _ (t : Datasets) (from to : Name) (none : rename_refusal t from to ≡ No
         old_apart = old_apart t.file_systems from to can;
         free = can.free;
         short = λ n f at family.
-            let e = any_none (λ (e : Name × FileSystem). is_in_family from e.0 && is_too_long (renamed from to e.0) e.1) (entries t.file_systems) none_long (n, f)
+            let e = any_none (λ (e : Name × FileSystem). is_in_family from e.0 && has_long (length (renamed from to e.0)) e.1) (entries t.file_systems) none_long (n, f)
             (in_entries (entries t.file_systems) n f (entry_of name_order t.file_systems n f at)) in
             short_by n f family (is_in_family from n) family e;
       }
     where
-      short_by : (n : Name) (f : FileSystem) → is_in_family from n ≡ true → (b : Bool) → b ≡ true → (b && is_too_long (renamed from to n) f) ≡ false → nat_lt name_limit (length (to ++ drop (length from) n)) ≡ false
+      short_by : (n : Name) (f : FileSystem) → is_in_family from n ≡ true → (b : Bool) → b ≡ true → (b && has_long (length (renamed from to n)) f) ≡ false → nat_lt name_limit (length (to ++ drop (length from) n)) ≡ false
       short_by n f family true k e = ap (λ x. nat_lt name_limit (length (if x then to ++ drop (length from) n else n))) (sym family) ∙ (or_none _ _ e).0
       short_by n f family false k e = absurd (true≢false (sym k))
 

@@ -25,7 +25,8 @@ ghost use Rattle.datasets.specs.Promoted.{promoted_in, IsPromotion, CanPromoteIn
 ghost use Rattle.world.specs.Outcomes.{Promotion};
 ghost use Rattle.file_system.specs.Rows.{live_of, snaps_at, with_live, with_snap, snap_count};
 ghost use Rattle.file_system.specs.Splices.{lost_from, without_snap_of, AreAbove};
-ghost use Rattle.file_system.specs.Deferred.{deferred_of, tagged_of};
+ghost use Rattle.base.specs.Names.{same_name};
+ghost use Rattle.file_system.specs.Deferred.{deferred_of, edited_of, tagged_of, with_snap_name};
 ghost use Rattle.file_system.specs.Writes.{young_after, IsWritten};
 ghost use Rattle.world.specs.Deadlists.{Lists};
 ghost use Rattle.tree.specs.Asking.{IsNoSpaceOrNoMemory};
@@ -366,6 +367,30 @@ impl FileSystems {
         self.near = place;
         let file_system = own(&mut self.rows[place], alloc)?;
         file_system.defer(alloc, group)
+    }
+
+    /// Renames the snapshot of this group of this file system, as `Table::rename_snapshot` says. The snapshot must be there, and none of the file system
+    /// may have the new name. Where others share the file system, a copy of it takes its place.
+    pub(crate) fn rename_snapshot(
+        &mut self,
+        alloc: Global,
+        name: &DsName,
+        group: Group,
+        to: &Component,
+    ) -> Result<(), Refusal>
+        requires there { IsSome (find (λ t. t.group == group.0) (snaps_at self.old name.now)) }
+        requires above { IfSome (get self.old name.now) (AreAbove (below_at self.old name.now)) }
+        requires free { find (λ t. same_name t.name to.now) (snaps_at self.old name.now) ≡ None }
+        ensures ok { OnOk result (self.new ≡ edited_of (with_snap_name to.now) self.old name.now group.0) }
+        ensures err { OnErr result (self.new ≡ self.old) }
+        ensures only { IfErr result (λ e. e ≡ Refusal.NoMemory) }
+    {
+        let Ok(place) = place_near(&self.rows, self.near, name.as_bytes()) else {
+            unreachable!()
+        };
+        self.near = place;
+        let file_system = own(&mut self.rows[place], alloc)?;
+        file_system.rename_snapshot(alloc, group, to)
     }
 
     /// Replaces the tags of the snapshot of this group of this file system, as `Table::set_tags` says. The snapshot must be there. Where others

@@ -1,6 +1,6 @@
 //! The datasets of a pool.
 ghost use Rattle.std.specs.Prelude.{ℕ, List, [], ◌≡◌, ◌⊎◌, ◌↔◌, ◌≤◌, ◌+◌, ◌<◌, ◌^◌, false, Some, None, IsSome, is_some, IfSome, IfOk, IfErr, OnOk, OnErr, map, length, nat_lt};
-ghost use Rattle.std.specs.List.{list_any};
+ghost use Rattle.std.specs.List.{find, list_any};
 ghost use Rattle.std.specs.Arc.{arc_value};
 ghost use Rattle.std.specs.Option.{option_map, option_map_or, option_copied};
 ghost use Rattle.std.specs.FinMap as finmap;
@@ -27,7 +27,7 @@ ghost use Rattle.file_system.specs.Rows.{Row, live_of, snaps_at, with_live, snap
 ghost use Rattle.datasets.specs.Clones.{with_clone_of, with_promoted};
 ghost use Rattle.datasets.specs.Holders.{snapshot_place, snap_in_system, IsPlace};
 ghost use Rattle.datasets.specs.Limits.{with_limit_of};
-ghost use Rattle.datasets.specs.Renames.{with_names, rename_refusal};
+ghost use Rattle.datasets.specs.Renames.{with_names, rename_refusal, with_snap_named};
 ghost use Rattle.datasets.specs.Rollbacks.{Loses};
 ghost use Rattle.datasets.specs.Table.{AreNumbersOne, AreBookmarksClosed, AreSnapshotsClosed};
 ghost use Rattle.datasets.specs.Writes.{young_of, AllowsWrite, HasWritten};
@@ -425,6 +425,29 @@ impl Table {
             return Err(Refusal::NoDataset);
         }
         self.systems.defer(alloc, file_system, id.group)
+    }
+
+    /// Renames the snapshot of this identity of this file system (zfs-rename(8)), none of whose snapshots may have the new name. NoDataset exactly where
+    /// the file system has no such snapshot; else NoMemory where there is none for it. After an error the table is as it was. It costs the logarithms
+    /// of the numbers of file systems and of snapshots, and a walk over the chunks of its file system's snapshots.
+    pub fn rename_snapshot(
+        &mut self,
+        alloc: Global,
+        file_system: &DsName,
+        id: SnapshotId,
+        to: &Component,
+    ) -> Result<(), Refusal>
+        requires free { find (λ t. same_name t.name to.now) (snaps_at self.old.file_systems file_system.now) ≡ None }
+        ensures ok { OnOk result (self.new ≡ with_snap_named self.old file_system.now id.group.0 to.now) }
+        ensures no_dataset { (result ≡ Err Refusal.NoDataset) ↔ (snap_in_system self.old file_system.now (snap_id id) ≡ None) }
+        ensures err { OnErr result (self.new ≡ self.old) }
+        ensures only { IfErr result (λ e. (e ≡ Refusal.NoDataset) ⊎ (e ≡ Refusal.NoMemory)) }
+    {
+        if !self.has_snapshot_in(file_system, id) {
+            return Err(Refusal::NoDataset);
+        }
+        self.systems
+            .rename_snapshot(alloc, file_system, id.group, to)
     }
 
     /// Replaces the tags of the snapshot of this identity of this file system (zfs-hold(8), zfs-release(8)). NoDataset exactly where the file

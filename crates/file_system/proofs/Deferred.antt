@@ -1,8 +1,10 @@
 -- The snapshots of a file system, where one of them is changed but for its map.
-use Rattle.std.proofs.Common.{◌≡◌, ◌≤◌, ℕ, zero, suc, cond, List, [], ◌∷◌, map, set, Some, refl, sym, ap, subst, ◌∙◌, arith}
+use Rattle.std.proofs.Common.{◌≡◌, ◌≤◌, ℕ, zero, suc, Bool, true, false, cond, true≢false, None, List, [], ◌∷◌, map, set, Some, refl, sym, ap, subst, ◌∙◌, arith}
 use Rattle.std.specs.Arc.{arc_value}
 use Rattle.std.specs.FinSet.{difference}
+use Rattle.std.specs.List.{find}
 use Rattle.std.specs.Option.{option_map}
+use Rattle.base.specs.Names.{same_name}
 use Rattle.base.specs.Map.{BlockSet, blocks}
 use Rattle.base.specs.Surveys.{dead_block}
 use Rattle.deadlist.specs.Held.{Held}
@@ -12,20 +14,40 @@ use Rattle.snapshots.specs.declared.kept.Kept.{Kept}
 use Rattle.world.specs.Deadlists.{Lists}
 use Rattle.world.specs.Worlds.{AreRising}
 use Rattle.file_system.specs.Dead.{snaps_in, newest_blocks, IsAccounted, AreAccounted, IsPlain}
-use Rattle.file_system.specs.Deferred.{edited_if, IsEdited, edit_of}
+use Rattle.file_system.specs.Deferred.{edited_if, IsEdited, edit_of, is_rename}
 use Rattle.file_system.specs.declared.mark.SnapshotEdit.{SnapshotEdit}
-use Rattle.file_system.specs.declared.mark.SnapshotEdit.TheVariants.{Defer, SetTags}
+use Rattle.file_system.specs.declared.mark.SnapshotEdit.TheVariants.{Defer, SetTags, SetName}
 use Rattle.file_system.proofs.Stacks.{is_it, is_other, group_above}
 
 -- ---- what an edit leaves
 
-pub same_name_of : (e : SnapshotEdit) (t : Snap) → (edit_of e t).name ≡ t.name
-same_name_of Defer t = refl
-same_name_of (SetTags tags) t = refl
+pub same_name_of : (e : SnapshotEdit) (t : Snap) → is_rename e ≡ false → (edit_of e t).name ≡ t.name
+same_name_of Defer t same = refl
+same_name_of (SetTags tags) t same = refl
+same_name_of (SetName name) t same = absurd (true≢false same)
+
+-- a name that it gives is nobody's
+pub free_name_of : (e : SnapshotEdit) (ts : List Snap) (t : Snap) → ((name : List ℕ) → e ≡ SetName name → find (λ (t : Snap). same_name t.name name) ts ≡ None)
+    → is_rename e ≡ true → find (λ (u : Snap). same_name u.name (edit_of e t).name) ts ≡ None
+free_name_of Defer ts t free is = absurd (true≢false (sym is))
+free_name_of (SetTags tags) ts t free is = absurd (true≢false (sym is))
+free_name_of (SetName name) ts t free is = free name refl
+
+-- so it is with what is kept of them
+pub none_kept : (ks : List Kept) (name : List ℕ) → find (λ (t : Snap). same_name t.name name) (snaps_in ks) ≡ None → find (λ (k : Kept). same_name k.snapshot.name name) ks ≡ None
+none_kept [] name e = refl
+none_kept (k ∷ ks) name e = by_test (same_name k.snapshot.name name) e (none_kept ks name)
+  where
+    by_test : (b : Bool) → cond b (Some k.snapshot) (find (λ (t : Snap). same_name t.name name) (snaps_in ks)) ≡ None
+        → (find (λ (t : Snap). same_name t.name name) (snaps_in ks) ≡ None → find (λ (k : Kept). same_name k.snapshot.name name) ks ≡ None)
+        → cond b (Some k) (find (λ (k : Kept). same_name k.snapshot.name name) ks) ≡ None
+    by_test true e rest = absurd cc
+    by_test false e rest = rest e
 
 pub same_map_of : (e : SnapshotEdit) (t : Snap) → (edit_of e t).map ≡ t.map
 same_map_of Defer t = refl
 same_map_of (SetTags tags) t = refl
+same_map_of (SetName name) t = refl
 
 -- ---- any change of one snapshot
 

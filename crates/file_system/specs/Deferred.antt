@@ -1,5 +1,5 @@
--- A snapshot whose destroy is deferred (zfs-destroy(8), -d), or that has other tags (zfs-hold(8), zfs-release(8)).
-use Rattle.std.specs.Prelude.{◌≡◌, ◌==◌, ℕ, List, Some, true, map, slice_get, if◌then◌else◌}
+-- A snapshot whose destroy is deferred (zfs-destroy(8), -d), that has other tags (zfs-hold(8), zfs-release(8)), or another name (zfs-rename(8)).
+use Rattle.std.specs.Prelude.{◌≡◌, ◌==◌, ℕ, Bool, List, Some, true, false, map, slice_get, if◌then◌else◌}
 use Rattle.std.specs.Arc.{arc_value}
 use Rattle.std.specs.FinMap.{get, insert}
 use Rattle.std.specs.Option.{option_map_or}
@@ -7,7 +7,7 @@ use Rattle.model.specs.World.{Snap, FileSystem}
 use Rattle.snapshots.specs.declared.kept.Kept.{Kept}
 use Rattle.file_system.specs.Rows.{FileSystems}
 use Rattle.file_system.specs.declared.mark.SnapshotEdit.{SnapshotEdit}
-use Rattle.file_system.specs.declared.mark.SnapshotEdit.TheVariants.{Defer, SetTags}
+use Rattle.file_system.specs.declared.mark.SnapshotEdit.TheVariants.{Defer, SetTags, SetName}
 
 -- ---- any change of one snapshot
 
@@ -59,9 +59,21 @@ tagged_at f group tags = edited_at (with_tags tags) f group
 abbrev pub tagged_of : FileSystems → List ℕ → ℕ → List (List ℕ) → FileSystems
 tagged_of m name group tags = edited_of (with_tags tags) m name group
 
+-- ---- another name
+
+-- the snapshot under this name (zfs-rename(8))
+abbrev pub with_snap_name : List ℕ → Snap → Snap
+with_snap_name name t = record t { name = name }
+
 -- ---- which change an edit is
 
--- that of a deferred destroy, or that of other tags (zfs-destroy(8), -d; zfs-hold(8), zfs-release(8))
+-- that of a deferred destroy, of other tags, or of another name (zfs-destroy(8), -d; zfs-hold(8), zfs-release(8); zfs-rename(8))
 abbrev pub edit_of : SnapshotEdit → Snap → Snap
 edit_of Defer = with_deferred
 edit_of (SetTags tags) = with_tags (arc_value tags)
+edit_of (SetName name) = with_snap_name name
+
+-- it gives another name (zfs-rename(8))
+abbrev pub is_rename : SnapshotEdit → Bool
+is_rename (SetName name) = true
+is_rename edit = false

@@ -1,5 +1,6 @@
 //! One file system, with its snapshots.
-ghost use Rattle.std.specs.Prelude.{◌≡◌, ◌≤◌, ◌<◌, ◌+◌, ◌^◌, ◌==◌, max, nat_lt, ◌∷◌, ◌↔◌, [], Some, IsSome, IsTrue, IfOk, IfErr, OnOk, OnErr, length, map, remove};
+ghost use Rattle.std.specs.Prelude.{◌≡◌, ◌≤◌, ◌<◌, ◌+◌, ◌^◌, ◌==◌, max, nat_lt, ◌∷◌, ◌↔◌, [], ℕ, List, true, false, Some, None, IsSome, IsTrue, IfOk, IfErr, OnOk, OnErr, length, map, remove, slice_get, slice_set};
+ghost use Rattle.snapshots.specs.Index.{AreNamesOnce};
 ghost use Rattle.std.specs.Option.{option_map, option_copied};
 ghost use Rattle.std.specs.Arc.{arc_value};
 ghost use Rattle.std.specs.Borrow.{sem};
@@ -25,7 +26,8 @@ ghost use Rattle.file_system.specs.Owned.{LendsLine};
 ghost use Rattle.file_system.specs.Promotions.{clone_row};
 ghost use Rattle.file_system.specs.Rows.{new_row, with_name, with_system, with_snap};
 ghost use Rattle.file_system.specs.Splices.{lost_from, without_group, AreAbove};
-ghost use Rattle.file_system.specs.Deferred.{deferred_at, edit_of, edited_at, tagged_at};
+ghost use Rattle.file_system.specs.Deferred.{deferred_at, edit_of, edited_at, tagged_at, with_snap_name};
+ghost use Rattle.file_system.specs.declared.mark.SnapshotEdit.{SnapshotEdit};
 ghost use Rattle.file_system.specs.Writes.{newest_group, young_after, IsWritten};
 
 use crate::counts::{UsedBlocks, counts_with, no_counts, recounted, rest_of};
@@ -425,18 +427,46 @@ impl FileSystem {
         self.edit(alloc, group, SnapshotEdit::SetTags(tags))
     }
 
-    // Applies this edit to the snapshot of this group, which must be there. NoMemory where there is none for it; then all is as it was.
+    /// Renames the snapshot of this group, which must be there (zfs-rename(8)). No snapshot may have the new name. NoMemory where there is none for
+    /// it; then all is as it was. It costs what `defer` does, and the lengths of both names.
+    pub fn rename_snapshot(
+        &mut self,
+        alloc: Global,
+        group: Group,
+        name: &Component,
+    ) -> Result<(), Refusal>
+        requires there { IsSome (find (λ t. t.group == group.0) self.old.system.snaps) }
+        requires above { AreAbove self.old.below self.old.system }
+        requires free { find (λ t. same_name t.name name.now) self.old.system.snaps ≡ None }
+        ensures ok { OnOk result (self.new ≡ with_system self.old (edited_at (with_snap_name name.now) self.old.system group.0)) }
+        ensures err { OnErr result (self.new ≡ self.old) }
+        ensures only { IfErr result (λ e. e ≡ Refusal.NoMemory) }
+    {
+        let name = copy_of(name)?;
+        self.edit(alloc, group, SnapshotEdit::SetName(name))
+    }
+
+    // Applies this edit to the snapshot of this group, which must be there. No snapshot may have a name that it gives. NoMemory where there is none for
+    // it; then all is as it was.
     fn edit(&mut self, alloc: Global, group: Group, edit: SnapshotEdit) -> Result<(), Refusal>
         requires there { IsSome (find (λ t. t.group == group.0) self.old.system.snaps) }
         requires above { AreAbove self.old.below self.old.system }
+        requires free { (name : List ℕ) → edit ≡ SnapshotEdit.SetName name → find (λ t. same_name t.name name) self.old.system.snaps ≡ None }
         ensures ok { OnOk result (self.new ≡ with_system self.old (edited_at (edit_of edit) self.old.system group.0)) }
         ensures err { OnErr result (self.new ≡ self.old) }
         ensures only { IfErr result (λ e. e ≡ Refusal.NoMemory) }
     {
         let kept = self.snapshots.list();
         let place = place_of(kept, group);
+        let renames = edit.is_rename();
         let next = edited(kept, place, edit)?;
-        own(&mut self.snapshots, alloc)?.set(alloc, place, next)?;
+        put_at(
+            own(&mut self.snapshots, alloc)?,
+            alloc,
+            place,
+            next,
+            renames,
+        )?;
         Ok(())
     }
 
@@ -536,6 +566,30 @@ fn is_born_after(dead: &Dead, group: Group) -> bool
     ensures { result ≡ nat_lt group.0 dead.now.birth.0 }
 {
     dead.birth.0 > group.0
+}
+
+// Puts the snapshot in the place of the one at `place`, whose name it has, or where `renames` is set a name that no snapshot has. NoMemory where there
+// is none for it; then all are as they were. It costs what `SnapshotList::set` or `SnapshotList::rename` does.
+fn put_at(
+    list: &mut SnapshotList,
+    alloc: Global,
+    place: usize,
+    next: Kept,
+    renames: bool,
+) -> Result<(), Refusal>
+    requires there { place < length list.old }
+    requires once { AreNamesOnce list.old }
+    requires same { renames ≡ false → option_map (λ k. k.snapshot.name) (slice_get list.old place) ≡ Some next.snapshot.name }
+    requires free { renames ≡ true → find (λ k. same_name k.snapshot.name next.snapshot.name) list.old ≡ None }
+    ensures ok { OnOk result (list.new ≡ slice_set list.old place next) }
+    ensures err { OnErr result (list.new ≡ list.old) }
+    ensures only { IfErr result (λ e. e ≡ Refusal.NoMemory) }
+{
+    if renames {
+        list.rename(alloc, place, next)
+    } else {
+        list.set(alloc, place, next)
+    }
 }
 
 // Lends the snapshots for a change. Where they have another owner, a copy takes their place first. NoMemory where there is none for the copy.

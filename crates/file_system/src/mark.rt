@@ -1,21 +1,36 @@
-//! Changes of a snapshot in its list: a deferred destroy, or other tags.
+//! Changes of a snapshot in its list: a deferred destroy, other tags, or another name.
 ghost use Rattle.std.specs.Prelude.{◌≡◌, ◌<◌, IfOk, IfErr, length};
 ghost use Rattle.base.specs.declared.refusal.Refusal.{Refusal};
-ghost use Rattle.file_system.specs.Deferred.{IsEdited, edit_of};
+ghost use Rattle.file_system.specs.Deferred.{IsEdited, edit_of, is_rename};
 
+use base::name::Component;
 use base::refusal::Refusal;
 use shared_list::SharedList;
 use snapshots::holds::Holds;
 use snapshots::{Kept, Snapshot};
 use std::sync::Arc;
 
-/// A change of a snapshot that leaves its name, its map and its group as they are.
+/// A change of a snapshot that leaves its map and its group as they are.
 #[derive(Drop)]
 pub enum SnapshotEdit {
     /// Its destroy becomes deferred (zfs-destroy(8), -d).
     Defer,
     /// Its tags are replaced by these (zfs-hold(8), zfs-release(8)).
     SetTags(Arc<Holds>),
+    /// It gets this name (zfs-rename(8)).
+    SetName(Component),
+}
+
+impl SnapshotEdit {
+    /// Whether it gives another name. Constant time.
+    pub fn is_rename(&self) -> bool
+        ensures { result ≡ is_rename self.now }
+    {
+        match self {
+            SnapshotEdit::SetName(_) => true,
+            _ => false,
+        }
+    }
 }
 
 // Applies the edit to this snapshot. Constant time.
@@ -25,6 +40,7 @@ fn make(snapshot: &mut Snapshot, edit: SnapshotEdit)
     match edit {
         SnapshotEdit::Defer => snapshot.defer(),
         SnapshotEdit::SetTags(tags) => snapshot.set_tags(tags),
+        SnapshotEdit::SetName(name) => snapshot.set_name(name),
     }
 }
 

@@ -76,8 +76,9 @@ SendsAreAnswered =
     → Step s (ToSend target from) reply u → IsNoRefusal reply → IsAnswered s.now target from reply
 
 -- A Send from a bookmark that isn't refused, once that was made of a snapshot, after each run at whose end the bookmark is there, in which no Abandon
--- goes back to before it and no rename gives its file system's name to another: the stream is the sent snapshot's since the other's group, and its records carry what that one held to what
--- the sent one has, whatever has become of it and whatever numbers the steps choose (zfs-bookmark(8); zfs-send(8), -i with a bookmark)
+-- goes back to before it and no rename gives its file system's name to another: the stream is the sent snapshot's since the other's group, and its
+-- records carry what that one held to what the sent one has, whatever has become of it and whatever numbers the steps choose (zfs-bookmark(8);
+-- zfs-send(8), -i with a bookmark)
 abbrev pub BookmarkSendsAreAnswered : Type 0
 BookmarkSendsAreAnswered =
     (s v u w : State) (name mark target : Member) (t : Snap) (qs : List Request) (rs : List Reply) (reply : Reply) → HasLineages s.now → IsNumbered s

@@ -14,7 +14,7 @@ use Rattle.model.specs.declared.destroy_target.DestroyTarget.TheVariants.{FileSy
 use Rattle.model.specs.Limits.{limited}
 use Rattle.model.specs.declared.limits.Limit.{Limit}
 use Rattle.model.specs.declared.request.Request.{Request}
-use Rattle.model.specs.declared.request.Request.TheVariants.{Create as ToCreate, Write as ToWrite, Punch as ToPunch, FreeObject as ToFreeObject, Snapshot as ToSnapshot, Read as ToRead, Get as ToGet, PoolGet as ToPoolGet, List as ToList, Rollback as ToRollback, Destroy as ToDestroy, Slice as ToSlice, Sync as ToSync, Abandon as ToAbandon, OpenView as ToOpenView, CloseView as ToCloseView, Clone as ToClone, Promote as ToPromote, Rename as ToRename, Hold as ToHold, Release as ToRelease, Holds as ToHolds, Bookmark as ToBookmark, WrittenSince as ToWrittenSince, WouldFree as ToWouldFree, Set as ToSet, Send as ToSend, Receive as ToReceive}
+use Rattle.model.specs.declared.request.Request.TheVariants.{Create as ToCreate, Write as ToWrite, Punch as ToPunch, FreeObject as ToFreeObject, Snapshot as ToSnapshot, Read as ToRead, Get as ToGet, PoolGet as ToPoolGet, List as ToList, Rollback as ToRollback, Destroy as ToDestroy, Slice as ToSlice, Sync as ToSync, Abandon as ToAbandon, OpenView as ToOpenView, CloseView as ToCloseView, Clone as ToClone, Promote as ToPromote, Rename as ToRename, RenameSnapshot as ToRenameSnapshot, Hold as ToHold, Release as ToRelease, Holds as ToHolds, Bookmark as ToBookmark, WrittenSince as ToWrittenSince, WouldFree as ToWouldFree, Set as ToSet, Send as ToSend, Receive as ToReceive}
 use Rattle.model.specs.declared.reply.Reply.{Reply}
 use Rattle.model.specs.State.{State}
 use Rattle.model.specs.Rule.{Choice, Rule}
@@ -29,6 +29,7 @@ use Rattle.model.specs.requests.Rollback.{placed, rolled_back, after_rollback}
 use Rattle.model.specs.requests.Clone.{with_clone}
 use Rattle.model.specs.requests.Promote.{Promotion, promotion_of, after_promotion}
 use Rattle.model.specs.requests.Rename.{with_renamed}
+use Rattle.model.specs.requests.RenameSnapshot.{with_snaps_renamed}
 use Rattle.model.specs.requests.Destroy.{file_systems_named, snaps_named, is_one_of, with_deferred, after_destroy}
 use Rattle.model.specs.requests.Release.{without_tag}
 use Rattle.model.specs.requests.Set.{after_set}
@@ -40,6 +41,7 @@ use Rattle.world.proofs.lineage.Put.{put_maps}
 use Rattle.world.proofs.removals.Families.{retained_maps}
 use Rattle.world.proofs.removals.WithoutSnaps.{without_from}
 use Rattle.world.proofs.changes.Renames.{renamed_of}
+use Rattle.world.proofs.changes.SnapNames.{named_from}
 use Rattle.world.proofs.steps.Groups.{same_maps}
 use Rattle.world.proofs.steps.SnapshotLists.{maps_through}
 use Rattle.images.specs.Stored.{AreFromState, MapsStay, changes_maps}
@@ -175,6 +177,7 @@ step_maps q r s new same step = followed r s new (rule_of q step.reading) (by_re
     by_request (ToClone target name) e c = cloned s target name
     by_request (ToPromote name) e c = turned s name
     by_request (ToRename name to) e c = renamed s name to
+    by_request (ToRenameSnapshot name to recursive) e c = moves s (with_snaps_renamed s.now name to recursive) (named_from name to recursive s.now)
     by_request (ToCloseView view) e c = record { now = inl (same_maps s.now.file_systems); last = inr (same_maps s.last.file_systems) }
     by_request (ToHold tag target) e c = tagged s target (λ t. t.tags ++ tag ∷ [])
     by_request (ToRelease tag target) e c = tagged s target (λ t. without_tag t.tags tag)

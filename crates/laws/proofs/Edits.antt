@@ -32,6 +32,8 @@ use Rattle.world.proofs.maps.Rewrites.{rewrite_is_change}
 use Rattle.world.proofs.removals.Sweep.{get-with_file_systems}
 use Rattle.laws.proofs.Keys.{IsSameBelow}
 use Rattle.laws.proofs.Walking.{IsNewest, WentOn, ComesFrom, IsLater}
+use Rattle.model.specs.requests.RenameSnapshot.{with_snaps_renamed}
+use Rattle.world.proofs.changes.SnapNames.{renames, renames_kept}
 
 -- ---- one file system
 
@@ -232,25 +234,28 @@ module _ (w : World) where
       (λ a f u h. (u, (from_filter (λ (t : Snap). not (goes t)) f.snaps u h).0, refl, refl))
 
   -- some of its snapshots changed, but not in identity and map
-  mapped_later : (v : World) (change : Snap → Snap) → ((t : Snap) → (id_of (change t) ≡ id_of t) × ((change t).map ≡ t.map)) → IsLater w v
-      → IsLater w (with_file_systems v (λ _ f. record f { snaps = map {A = Snap} change f.snaps }))
-  mapped_later v change same later = all_later v (λ _ f. record f { snaps = map {A = Snap} change f.snaps }) later
-      (λ a f s went. went_mapped w.group f s change same went)
+  mapped_later : (v : World) (change : List ℕ → Snap → Snap) → ((a : Name) (t : Snap) → (id_of (change a t) ≡ id_of t) × ((change a t).map ≡ t.map)) → IsLater w v
+      → IsLater w (with_file_systems v (λ a f. record f { snaps = map {A = Snap} (change a) f.snaps }))
+  mapped_later v change same later = all_later v (λ a f. record f { snaps = map {A = Snap} (change a) f.snaps }) later
+      (λ a f s went. went_mapped w.group f s (change a) (same a) went)
       (λ a f. (refl, refl))
       (λ a f u h.
-      let i = in_map change f.snaps u h in
-      (i.0, i.1, ap (λ (x : Snap). x.group) i.2 ∙ ap (λ (x : SnapId). x.group) (same i.0).0, ap (λ (x : Snap). x.map) i.2 ∙ (same i.0).1))
+      let i = in_map (change a) f.snaps u h in
+      (i.0, i.1, ap (λ (x : Snap). x.group) i.2 ∙ ap (λ (x : SnapId). x.group) (same a i.0).0, ap (λ (x : Snap). x.map) i.2 ∙ (same a i.0).1))
 
   pub deferred_later : (v : World) (some : Snap → Bool) → IsLater w v → IsLater w (with_deferred v some)
-  deferred_later v some = mapped_later v (λ t. record t { deferred = t.deferred || some t }) (λ t. (refl, refl))
+  deferred_later v some = mapped_later v (λ _ t. record t { deferred = t.deferred || some t }) (λ a t. (refl, refl))
 
   pub tagged_later : (id : SnapId) (tags : List (List ℕ)) → IsLater w (with_tags w id tags)
-  tagged_later id tags = mapped_later w (λ t. if same_id (id_of t) id then record t { tags = tags } else t) (λ t. by_test t (same_id (id_of t) id)) same_later
+  tagged_later id tags = mapped_later w (λ _ t. if same_id (id_of t) id then record t { tags = tags } else t) (λ a t. by_test t (same_id (id_of t) id)) same_later
     where
       by_test : (t : Snap) (b : Bool)
           → (id_of (if b then record t { tags = tags } else t) ≡ id_of t) × ((if b then record t { tags = tags } else t).map ≡ t.map)
       by_test t true = (refl, refl)
       by_test t false = (refl, refl)
+
+  pub named_later : (m : Member) (to : List ℕ) (recursive : Bool) → IsLater w (with_snaps_renamed w m to recursive)
+  named_later m to recursive = mapped_later w (renames m to recursive) (renames_kept m to recursive) same_later
 
   -- one file system more
   pub added_later : (name : Name) (f : FileSystem) → f.snaps ≡ [] → ((id : SnapId) → f.origin ≡ Some id → IsThere w (Snapped id) × (f.live ≡ map_of w (Snapped id)))

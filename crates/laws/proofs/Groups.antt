@@ -14,7 +14,7 @@ use Rattle.model.specs.declared.destroy_target.DestroyTarget.TheVariants.{FileSy
 use Rattle.model.specs.Limits.{limited}
 use Rattle.model.specs.declared.receiving.Receiving.{Receiving}
 use Rattle.model.specs.declared.request.Request.{Request}
-use Rattle.model.specs.declared.request.Request.TheVariants.{Create as ToCreate, Write as ToWrite, Punch as ToPunch, FreeObject as ToFreeObject, Snapshot as ToSnapshot, Read as ToRead, Get as ToGet, PoolGet as ToPoolGet, List as ToList, Rollback as ToRollback, Destroy as ToDestroy, Slice as ToSlice, Sync as ToSync, Abandon as ToAbandon, OpenView as ToOpenView, CloseView as ToCloseView, Clone as ToClone, Promote as ToPromote, Rename as ToRename, Hold as ToHold, Release as ToRelease, Holds as ToHolds, Bookmark as ToBookmark, WrittenSince as ToWrittenSince, WouldFree as ToWouldFree, Set as ToSet, Send as ToSend, Receive as ToReceive}
+use Rattle.model.specs.declared.request.Request.TheVariants.{Create as ToCreate, Write as ToWrite, Punch as ToPunch, FreeObject as ToFreeObject, Snapshot as ToSnapshot, Read as ToRead, Get as ToGet, PoolGet as ToPoolGet, List as ToList, Rollback as ToRollback, Destroy as ToDestroy, Slice as ToSlice, Sync as ToSync, Abandon as ToAbandon, OpenView as ToOpenView, CloseView as ToCloseView, Clone as ToClone, Promote as ToPromote, Rename as ToRename, RenameSnapshot as ToRenameSnapshot, Hold as ToHold, Release as ToRelease, Holds as ToHolds, Bookmark as ToBookmark, WrittenSince as ToWrittenSince, WouldFree as ToWouldFree, Set as ToSet, Send as ToSend, Receive as ToReceive}
 use Rattle.model.specs.declared.reply.Reply.{Reply}
 use Rattle.model.specs.World.{World, FileSystem, Snap, id_of, snap_at}
 use Rattle.model.specs.State.{State}
@@ -153,6 +153,7 @@ step_group q r s new step = step_joins (λ w v. w.group ≤ v.group) (λ w. omeg
     by_request (ToClone target name) c none is = cloned s target name
     by_request (ToPromote name) c none is = turned s name
     by_request (ToRename name to) c none is = omega arith
+    by_request (ToRenameSnapshot name to recursive) c none is = omega arith
     by_request (ToHold tag target) c none is = at_least _ _ (tagged s.now target (λ t. t.tags ++ tag ∷ []))
     by_request (ToRelease tag target) c none is = at_least _ _ (tagged s.now target (λ t. without_tag t.tags tag))
     by_request (ToHolds target) c none is = omega arith

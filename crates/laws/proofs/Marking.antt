@@ -20,7 +20,7 @@ use Rattle.model.specs.Limits.{limited}
 use Rattle.model.specs.declared.receiving.Receiving.{Receiving}
 use Rattle.model.specs.declared.receiving.Receiving.TheVariants.{Plain, Back, Past, Origin, Replace}
 use Rattle.model.specs.declared.request.Request.{Request}
-use Rattle.model.specs.declared.request.Request.TheVariants.{Create as ToCreate, Write as ToWrite, Punch as ToPunch, FreeObject as ToFreeObject, Snapshot as ToSnapshot, Read as ToRead, Get as ToGet, PoolGet as ToPoolGet, List as ToList, Rollback as ToRollback, Destroy as ToDestroy, Slice as ToSlice, Sync as ToSync, Abandon as ToAbandon, OpenView as ToOpenView, CloseView as ToCloseView, Clone as ToClone, Promote as ToPromote, Rename as ToRename, Hold as ToHold, Release as ToRelease, Holds as ToHolds, Bookmark as ToBookmark, WrittenSince as ToWrittenSince, WouldFree as ToWouldFree, Set as ToSet, Send as ToSend, Receive as ToReceive}
+use Rattle.model.specs.declared.request.Request.TheVariants.{Create as ToCreate, Write as ToWrite, Punch as ToPunch, FreeObject as ToFreeObject, Snapshot as ToSnapshot, Read as ToRead, Get as ToGet, PoolGet as ToPoolGet, List as ToList, Rollback as ToRollback, Destroy as ToDestroy, Slice as ToSlice, Sync as ToSync, Abandon as ToAbandon, OpenView as ToOpenView, CloseView as ToCloseView, Clone as ToClone, Promote as ToPromote, Rename as ToRename, RenameSnapshot as ToRenameSnapshot, Hold as ToHold, Release as ToRelease, Holds as ToHolds, Bookmark as ToBookmark, WrittenSince as ToWrittenSince, WouldFree as ToWouldFree, Set as ToSet, Send as ToSend, Receive as ToReceive}
 use Rattle.model.specs.declared.reply.Reply.{Reply}
 use Rattle.model.specs.World.{World, FileSystem, Snap, SnapId, Bookmark, id_of, same_id, snap_at, snap_named, empty_file_system, map_of_snap}
 use Rattle.model.specs.State.{State}
@@ -57,6 +57,7 @@ use Rattle.world.proofs.views.ViewedRequests.{row_false}
 use Rattle.laws.specs.Runs.{given}
 use Rattle.laws.proofs.Before.{world_before, step_joins}
 use Rattle.laws.proofs.Edits.{marks_left}
+use Rattle.world.proofs.changes.SnapNames.{with_names}
 
 -- the file system of that name has the bookmark, under this name
 abbrev pub HasMark : World → Name → List ℕ → Bookmark → Type 0
@@ -343,6 +344,7 @@ step_marks q r s new step = step_joins (MarksFrom (given q r)) (λ w a at b h. i
     by_request (ToClone target name) c none is = λ a at b h. inl (cloned s target name a at b h)
     by_request (ToPromote name) c none is = λ a at b h. inl (turned s name a at b h)
     by_request (ToRename name to) c none is = subst (λ x. MarksFrom (given (ToRename name to) x) s.now (with_renamed s.now name to)) (sym is) (renamed_from s name to none)
+    by_request (ToRenameSnapshot name to recursive) c none is = λ a at b h. inl (all_kept s.now (with_names name to recursive) (λ a f. refl) a at b h)
     by_request (ToHold tag target) c none is = λ a at b h. inl (tagged s.now target (λ t. t.tags ++ tag ∷ []) a at b h)
     by_request (ToRelease tag target) c none is = λ a at b h. inl (tagged s.now target (λ t. without_tag t.tags tag) a at b h)
     by_request (ToHolds target) c none is = λ a at b h. inl h

@@ -23,7 +23,7 @@ use Rattle.model.specs.Limits.{limited}
 use Rattle.model.specs.declared.receiving.Receiving.{Receiving}
 use Rattle.model.specs.declared.receiving.Receiving.TheVariants.{Plain, Back, Past, Origin, Replace}
 use Rattle.model.specs.declared.request.Request.{Request}
-use Rattle.model.specs.declared.request.Request.TheVariants.{Create as ToCreate, Write as ToWrite, Punch as ToPunch, FreeObject as ToFreeObject, Snapshot as ToSnapshot, Read as ToRead, Get as ToGet, PoolGet as ToPoolGet, List as ToList, Rollback as ToRollback, Destroy as ToDestroy, Slice as ToSlice, Sync as ToSync, Abandon as ToAbandon, OpenView as ToOpenView, CloseView as ToCloseView, Clone as ToClone, Promote as ToPromote, Rename as ToRename, Hold as ToHold, Release as ToRelease, Holds as ToHolds, Bookmark as ToBookmark, WrittenSince as ToWrittenSince, WouldFree as ToWouldFree, Set as ToSet, Send as ToSend, Receive as ToReceive}
+use Rattle.model.specs.declared.request.Request.TheVariants.{Create as ToCreate, Write as ToWrite, Punch as ToPunch, FreeObject as ToFreeObject, Snapshot as ToSnapshot, Read as ToRead, Get as ToGet, PoolGet as ToPoolGet, List as ToList, Rollback as ToRollback, Destroy as ToDestroy, Slice as ToSlice, Sync as ToSync, Abandon as ToAbandon, OpenView as ToOpenView, CloseView as ToCloseView, Clone as ToClone, Promote as ToPromote, Rename as ToRename, RenameSnapshot as ToRenameSnapshot, Hold as ToHold, Release as ToRelease, Holds as ToHolds, Bookmark as ToBookmark, WrittenSince as ToWrittenSince, WouldFree as ToWouldFree, Set as ToSet, Send as ToSend, Receive as ToReceive}
 use Rattle.model.specs.declared.reply.Reply.{Reply}
 use Rattle.model.specs.World.{World, FileSystem, Snap, SnapId, Bookmark, id_of, file_system_at, snap_named, empty_file_system, map_of_snap, clones_of}
 use Rattle.model.specs.State.{State, Views, is_viewed}
@@ -59,7 +59,7 @@ use Rattle.world.proofs.removals.WithoutSnaps.{any_from}
 use Rattle.laws.specs.Lineages.{IsOrdered, origin_group}
 use Rattle.laws.proofs.Before.{world_before, step_joins}
 use Rattle.laws.proofs.Edits.{marks_left}
-use Rattle.laws.proofs.Orders.{same_followed, one_ordered, without_ordered, deferred_ordered, tagged_ordered, losses_ordered, added_ordered, left_ordered, taken_ordered}
+use Rattle.laws.proofs.Orders.{same_followed, one_ordered, without_ordered, deferred_ordered, named_ordered, tagged_ordered, losses_ordered, added_ordered, left_ordered, taken_ordered}
 use Rattle.laws.proofs.Rising.{rising_filter}
 use Rattle.laws.proofs.Moving.{moved_ordered}
 use Rattle.laws.proofs.Turning.{turned_ordered}
@@ -405,6 +405,7 @@ step_ordered q r s new step =
     by_request (ToClone target name) c none is o = cloned s o target name none
     by_request (ToPromote name) c none is o = promoted_on s o name
     by_request (ToRename name to) c none is o = moved_ordered s.now o name to (rename_can s name to none)
+    by_request (ToRenameSnapshot name to recursive) c none is o = named_ordered s.now o name to recursive
     by_request (ToHold tag target) c none is o = tags_ordered s.now o target (λ t. t.tags ++ tag ∷ [])
     by_request (ToRelease tag target) c none is o = tags_ordered s.now o target (λ t. without_tag t.tags tag)
     by_request (ToHolds target) c none is o = o

@@ -28,6 +28,9 @@ use Rattle.world.proofs.views.ViewedTakes.{taken_safe}
 use Rattle.laws.specs.Lineages.{origin_group, IsOrdered}
 use Rattle.laws.proofs.Lineages.{there_closed}
 use Rattle.laws.proofs.Rising.{rising_filter, rising_mapped, rising_added}
+use Rattle.model.specs.requests.RenameSnapshot.{with_snaps_renamed}
+use Rattle.world.proofs.changes.SnapNames.{renames, renames_kept, with_names}
+use Rattle.world.proofs.views.ViewedSnapNames.{named_once, named_closed}
 
 -- ---- file systems that go on
 
@@ -174,6 +177,10 @@ module _ (w : World) (o : IsOrdered w) where
       by_test : (t : Snap) (b : Bool) → id_of (if b then record t { tags = tags } else t) ≡ id_of t
       by_test t true = refl
       by_test t false = refl
+
+  pub named_ordered : (m : Member) (to : List ℕ) (recursive : Bool) → IsOrdered (with_snaps_renamed w m to recursive)
+  named_ordered m to recursive = all_ordered (with_names m to recursive) (named_once w m to recursive o.once o.closed) (named_closed w m to recursive o.once o.closed)
+      (λ a. mapped_followed (renames m to recursive a) (λ t. (renames_kept m to recursive a t).0) a)
 
   -- what is to be freed is no matter
   pub losses_ordered : (old : World) → IsOrdered (with_losses old w)

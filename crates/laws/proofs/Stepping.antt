@@ -15,7 +15,7 @@ use Rattle.model.specs.declared.destroy_target.DestroyTarget.TheVariants.{FileSy
 use Rattle.model.specs.Limits.{limited}
 use Rattle.model.specs.declared.limits.Limit.{Limit}
 use Rattle.model.specs.declared.request.Request.{Request}
-use Rattle.model.specs.declared.request.Request.TheVariants.{Create as ToCreate, Write as ToWrite, Punch as ToPunch, FreeObject as ToFreeObject, Snapshot as ToSnapshot, Read as ToRead, Get as ToGet, PoolGet as ToPoolGet, List as ToList, Rollback as ToRollback, Destroy as ToDestroy, Slice as ToSlice, Sync as ToSync, Abandon as ToAbandon, OpenView as ToOpenView, CloseView as ToCloseView, Clone as ToClone, Promote as ToPromote, Rename as ToRename, Hold as ToHold, Release as ToRelease, Holds as ToHolds, Bookmark as ToBookmark, WrittenSince as ToWrittenSince, WouldFree as ToWouldFree, Set as ToSet, Send as ToSend, Receive as ToReceive}
+use Rattle.model.specs.declared.request.Request.TheVariants.{Create as ToCreate, Write as ToWrite, Punch as ToPunch, FreeObject as ToFreeObject, Snapshot as ToSnapshot, Read as ToRead, Get as ToGet, PoolGet as ToPoolGet, List as ToList, Rollback as ToRollback, Destroy as ToDestroy, Slice as ToSlice, Sync as ToSync, Abandon as ToAbandon, OpenView as ToOpenView, CloseView as ToCloseView, Clone as ToClone, Promote as ToPromote, Rename as ToRename, RenameSnapshot as ToRenameSnapshot, Hold as ToHold, Release as ToRelease, Holds as ToHolds, Bookmark as ToBookmark, WrittenSince as ToWrittenSince, WouldFree as ToWouldFree, Set as ToSet, Send as ToSend, Receive as ToReceive}
 use Rattle.model.specs.declared.reply.Reply.{Reply}
 use Rattle.model.specs.World.{World, FileSystem, Snap, SnapId, Bookmark, Snapped, id_of, empty_file_system, map_of, map_of_snap}
 use Rattle.model.specs.State.{State}
@@ -47,7 +47,7 @@ use Rattle.world.proofs.views.ViewedRequests.{row_false, from_placed}
 use Rattle.laws.specs.Lineages.{IsOrdered, HasLineages, HasBirths}
 use Rattle.laws.specs.Bookmarks.{IsSource}
 use Rattle.laws.proofs.Before.{world_before, step_joins}
-use Rattle.laws.proofs.Edits.{went_same, went_written, went_back, same_later, one_later, without_later, deferred_later, tagged_later, added_later, empty_later, left_later, taken_later}
+use Rattle.laws.proofs.Edits.{went_same, went_written, went_back, same_later, one_later, without_later, deferred_later, named_later, tagged_later, added_later, empty_later, left_later, taken_later}
 use Rattle.laws.proofs.Receiving.{got}
 use Rattle.laws.proofs.Lineages.{found}
 use Rattle.laws.proofs.Sources.{of_kept, was_there, source_stays, lineages_go_on}
@@ -264,6 +264,7 @@ step_became q r s new step =
     by_request (ToClone target name) c none is o = went (cloned s target name none)
     by_request (ToPromote name) c none is o = turned_over s o name
     by_request (ToRename name to) c none is o = moved_over s o name to none
+    by_request (ToRenameSnapshot name to recursive) c none is o = went (named_later s.now name to recursive)
     by_request (ToHold tag target) c none is o = went (tagged s target (λ t. t.tags ++ tag ∷ []))
     by_request (ToRelease tag target) c none is o = went (tagged s target (λ t. without_tag t.tags tag))
     by_request (ToHolds target) c none is o = went (same_later s.now)

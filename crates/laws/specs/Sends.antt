@@ -53,8 +53,8 @@ SnapshotSends =
     → IsInLineage s.now name id.group d → Sends s.now id.group (map_of s.now (Snapped id)) d
 
 -- From a bookmark: once it is made of a snapshot, after each run at whose end it is there, in which no Abandon goes back to before it and no rename
--- gives its file system's name to another, whatever has become of the snapshot and whatever numbers the steps choose, the records since its group carry what the snapshot held to what
--- each later dataset of the lineage holds (zfs-bookmark(8); zfs-send(8), -i with a bookmark)
+-- gives its file system's name to another, whatever has become of the snapshot and whatever numbers the steps choose, the records since its group
+-- carry what the snapshot held to what each later dataset of the lineage holds (zfs-bookmark(8); zfs-send(8), -i with a bookmark)
 abbrev pub BookmarkSends : Type 0
 BookmarkSends =
     (s v u : State) (name mark : Member) (t : Snap) (qs : List Request) (rs : List Reply) (d : Dataset) → HasLineages s.now → IsNumbered s
@@ -62,8 +62,8 @@ BookmarkSends =
     → IsInLineage u.now mark.file_system t.group d → Sends u.now t.group t.map d
 
 -- So in a history: where it has a bookmark that was made, it was made of a snapshot that was there then, and if that bookmark is there at the
--- history's end, and no Abandon went back to before it was made, the records since its group carry what the snapshot held to what each later dataset of the lineage holds (zfs-bookmark(8);
--- zfs-send(8), -i with a bookmark)
+-- history's end, no Abandon went back to before it was made and no rename gave its file system's name to another, the records since its group carry
+-- what the snapshot held to what each later dataset of the lineage holds (zfs-bookmark(8); zfs-send(8), -i with a bookmark)
 abbrev pub HistorySends : Type 0
 HistorySends =
     (s u : State) (qs more : List Request) (rs others : List Reply) (name mark : Member) → InBoth HasLineages s → IsNumbered s → length qs ≡ length rs

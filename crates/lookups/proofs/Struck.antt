@@ -1,9 +1,9 @@
 -- What a snapshot alone has, by what a file system tells of it and by its clones.
-use Rattle.std.proofs.Common.{◌≡◌, ◌<◌, ◌≤◌, ℕ, zero, suc, Bool, true, false, cond, List, [], ◌∷◌, ◌++◌, Option, Some, None, map, drop, get_or, length, refl, sym, ap, subst, ◌∙◌, ◌⊎◌, ◌+◌, true≢false, inl, inr, ⊎_elim, arith}
+use Rattle.std.proofs.Common.{◌≡◌, ◌<◌, ◌≤◌, ℕ, zero, suc, Bool, true, false, cond, List, [], ◌∷◌, ◌++◌, Some, None, map, drop, get_or, length, refl, sym, ap, subst, ◌∙◌, ◌⊎◌, ◌+◌, true≢false, inl, inr, ⊎_elim, arith}
 use Rattle.std.specs.Prelude.{◌==◌, IsSome}
-use Rattle.std.specs.List.{find, filter}
+use Rattle.std.specs.List.{find}
 use Rattle.std.specs.Option.{option_map, option_map_or}
-use Rattle.std.specs.FinMap.{get, entries}
+use Rattle.std.specs.FinMap.{get}
 use Rattle.std.specs.FinSet.{len, difference}
 use Rattle.std.proofs.lemmas.Bool.{cases_lt, eq-eqb}
 use Rattle.base.specs.Map.{Map, Block, BlockSet, blocks}
@@ -13,16 +13,16 @@ use Rattle.model.specs.Sums.{used_by_snap, referenced_of, union_without}
 use Rattle.world.specs.Sets.{Has}
 use Rattle.world.specs.Blocks.{block_order as o, after}
 use Rattle.world.specs.Dead.{IsThere, base_of, below_of, dead_of, next_in}
-use Rattle.world.specs.Shapes.{Name, name_order}
+use Rattle.world.specs.Shapes.{Name}
 use Rattle.world.specs.Tables.{Datasets, world_of}
 use Rattle.world.specs.Worlds.{AreRising}
-use Rattle.world.proofs.lineage.Bridge.{from_entries, map_of_kept, previous_of_kept}
+use Rattle.world.proofs.lineage.Bridge.{map_of_kept, previous_of_kept}
 use Rattle.world.proofs.lineage.Dead.{in_line}
-use Rattle.world.proofs.lists.Finding.{in_left, from_filter, same_id_is}
-use Rattle.world.proofs.lists.Listed.{in_map}
-use Rattle.world.proofs.lists.Maps.{same_value, no_value, at_entry}
+use Rattle.world.proofs.lists.Finding.{in_left}
+use Rattle.world.proofs.lists.Maps.{same_value, no_value}
 use Rattle.world.proofs.lineage.Lineage.{in_after, from_after}
 use Rattle.world.proofs.changes.Promotions.{split_at}
+use Rattle.world.proofs.steps.States.{from_clones}
 use Rattle.world.proofs.lists.SetCounts.{len-difference, same_members, in_difference, from_difference}
 use Rattle.datasets.specs.Dead.{newest_blocks}
 use Rattle.datasets.specs.Rows.{Row}
@@ -61,19 +61,6 @@ module _ (t : Datasets) (sound : IsTable t) where
     strikes f at bs_is =
         ap (λ s. struck t s (map name_of (drop (i + 1) xs))) (bs_is ∙ ap (difference left) (sym (oldest_is (name_of x) f at)))
         ∙ ap (λ l. struck t left (map name_of l)) (sym (next_left xs i x lt is)) ∙ so_far
-
--- ---- clones
-
-from_clones : (t : Datasets) (id : SnapId) (n : Name) → IsIn (clones_of (world_of t) id) n → (f : FileSystem) × (get t.file_systems n ≡ Some f) × (f.origin ≡ Some id)
-from_clones t id n h =
-    let test = (λ (e : Name × FileSystem). option_map_or (same_id id) e.1.origin false) in
-    let e = in_map (λ (e : Name × FileSystem). e.0) (filter test (entries t.file_systems)) n h in
-    let k = from_filter test (entries t.file_systems) e.0 e.1 in
-    (e.0.1, ap (get t.file_systems) e.2 ∙ at_entry name_order t.file_systems e.0.0 e.0.1 (from_entries (entries t.file_systems) e.0 k.0), by_origin e.0.1.origin k.1)
-  where
-    by_origin : (y : Option SnapId) → option_map_or (same_id id) y false ≡ true → y ≡ Some id
-    by_origin None k = absurd (true≢false (sym k))
-    by_origin (Some i) k = ap Some (sym (same_id_is id i k))
 
 pub item_in : {A : Type 0} (name_of : A → Name) (xs : List A) (i : ℕ) (x : A) → i < length xs → x ≡ get_or xs i x → IsIn (map name_of xs) (name_of x)
 item_in name_of [] i x lt is = absurd (omega (arith, lt))
@@ -165,7 +152,7 @@ module _ (t : Datasets) (sound : IsTable t) (name : Name) (f : FileSystem) (at :
   pub clones_above : (names : List Name) → names ≡ clones_of (world_of t) (id_of u) → (n : Name) → IsIn names n
       → IsCloneAbove t (lost_from (blocks (below_in t.file_systems f.origin)) f.snaps f.live u.group) n
   clones_above names is n k =
-      let c = from_clones t (id_of u) n (subst (λ l. IsIn l n) is k) in
+      let c = from_clones (world_of t) (id_of u) n (subst (λ l. IsIn l n) is k) in
       record {
         system = c.0;
         at = c.1;

@@ -3,3 +3,4 @@ pub mod Tagged
 pub mod Released
 pub mod Held
 pub mod Bookmarked
+pub mod Naming

@@ -11,6 +11,7 @@ pub mod Limits
 pub mod Fits
 pub mod Properties
 pub mod Targets
+pub mod Lengths
 pub mod Edits
 pub mod Rule
 pub mod requests

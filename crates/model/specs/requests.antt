@@ -3,7 +3,7 @@ use Rattle.std.specs.Prelude.{◌≡◌, ℕ, Option, None, Some}
 use Rattle.std.specs.Prelude.{List as ListOf}
 use Rattle.stream.specs.Spelling.{Sending, IsStream, IsNoStream}
 use Rattle.model.specs.declared.request.Request.{Request}
-use Rattle.model.specs.declared.request.Request.TheVariants.{Create as ToCreate, Write as ToWrite, Punch as ToPunch, FreeObject as ToFreeObject, Snapshot as ToSnapshot, Read as ToRead, Get as ToGet, PoolGet as ToPoolGet, List as ToList, Rollback as ToRollback, Destroy as ToDestroy, Slice as ToSlice, Sync as ToSync, Abandon as ToAbandon, OpenView as ToOpenView, CloseView as ToCloseView, Clone as ToClone, Promote as ToPromote, Rename as ToRename, Hold as ToHold, Release as ToRelease, Holds as ToHolds, Bookmark as ToBookmark, WrittenSince as ToWrittenSince, WouldFree as ToWouldFree, Set as ToSet, Send as ToSend, Receive as ToReceive}
+use Rattle.model.specs.declared.request.Request.TheVariants.{Create as ToCreate, Write as ToWrite, Punch as ToPunch, FreeObject as ToFreeObject, Snapshot as ToSnapshot, Read as ToRead, Get as ToGet, PoolGet as ToPoolGet, List as ToList, Rollback as ToRollback, Destroy as ToDestroy, Slice as ToSlice, Sync as ToSync, Abandon as ToAbandon, OpenView as ToOpenView, CloseView as ToCloseView, Clone as ToClone, Promote as ToPromote, Rename as ToRename, RenameSnapshot as ToRenameSnapshot, Hold as ToHold, Release as ToRelease, Holds as ToHolds, Bookmark as ToBookmark, WrittenSince as ToWrittenSince, WouldFree as ToWouldFree, Set as ToSet, Send as ToSend, Receive as ToReceive}
 use Rattle.model.specs.declared.reply.Reply.TheVariants.{Done}
 use Rattle.model.specs.State.{State}
 use Rattle.model.specs.Rule.{Rule}
@@ -26,6 +26,7 @@ use Rattle.model.specs.requests.CloseView.{close_view_rule}
 use Rattle.model.specs.requests.Clone.{clone_rule}
 use Rattle.model.specs.requests.Promote.{promote_rule}
 use Rattle.model.specs.requests.Rename.{rename_rule}
+use Rattle.model.specs.requests.RenameSnapshot.{rename_snapshot_rule}
 use Rattle.model.specs.requests.Hold.{hold_rule}
 use Rattle.model.specs.requests.Release.{release_rule}
 use Rattle.model.specs.requests.Holds.{holds_rule}
@@ -55,6 +56,7 @@ pub mod CloseView
 pub mod Clone
 pub mod Promote
 pub mod Rename
+pub mod RenameSnapshot
 pub mod Hold
 pub mod Release
 pub mod Holds
@@ -96,6 +98,7 @@ rule_of (ToCloseView view) reading = close_view_rule view
 rule_of (ToClone target name) reading = clone_rule target name
 rule_of (ToPromote name) reading = promote_rule name
 rule_of (ToRename name to) reading = rename_rule name to
+rule_of (ToRenameSnapshot snapshot to recursive) reading = rename_snapshot_rule snapshot to recursive
 rule_of (ToHold tag target) reading = hold_rule tag target
 rule_of (ToRelease tag target) reading = release_rule tag target
 rule_of (ToHolds target) reading = holds_rule target

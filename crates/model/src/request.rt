@@ -196,6 +196,15 @@ pub enum Request {
         name: DsName,
         to: DsName,
     },
+    /// Renames a snapshot within its file system, and with `recursive` the snapshots of this name of all file systems below it too (zfs-rename(8),
+    /// -r): one that has none of this name stays as it is. Map, tags, group and guid stay. The reply is Done. It is refused with NoDataset where no
+    /// snapshot has the name, BadName where a whole name would have more than 255 bytes, Exists where a file system whose snapshot would be renamed
+    /// has one of the new name, Busy where an open view shows one that would be renamed: the first of these that applies, or NoMemory.
+    RenameSnapshot {
+        snapshot: SnapName,
+        to: Component,
+        recursive: bool,
+    },
     /// Adds a tag to a snapshot, which keeps it from being destroyed until the tag is released (zfs-hold(8)). The reply is Done. It is refused
     /// with NotSnapshot where the target is not a snapshot's name, NoDataset where no snapshot has it, Deferred where the snapshot's destroy is
     /// deferred, TagExists where it has the tag already, TooMany where it has 256 tags: the first of these that applies, or NoMemory.
@@ -389,6 +398,18 @@ impl Request {
             (Request::Rename { name: a, to: b }, Request::Rename { name: c, to: d }) => {
                 a.same(c) && b.same(d)
             }
+            (
+                Request::RenameSnapshot {
+                    snapshot: a,
+                    to: b,
+                    recursive: r,
+                },
+                Request::RenameSnapshot {
+                    snapshot: c,
+                    to: d,
+                    recursive: s,
+                },
+            ) => a.same(c) && b.same(d) && *r == *s,
             (Request::CloseView { view: v }, Request::CloseView { view: w }) => *v == *w,
             (Request::Hold { tag: a, target: t }, Request::Hold { tag: b, target: u }) => {
                 a.same(b) && t.same(u)

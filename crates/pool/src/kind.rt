@@ -57,6 +57,7 @@ pub(crate) fn changed_name(request: &Request) -> Option<&DsName> {
         Request::Promote { name } | Request::Rename { name, .. } | Request::Set { name, .. } => {
             Some(name)
         }
+        Request::RenameSnapshot { snapshot, .. } => Some(&snapshot.member().file_system),
         Request::Destroy { target, .. } => first_file_system(target),
         _ => None,
     }

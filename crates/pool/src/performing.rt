@@ -69,6 +69,11 @@ impl Keep {
             Request::Clone { target, name } => self.clone_snapshot(world, target, name),
             Request::Promote { name } => self.promote(alloc, world, name, &mut meters.segments),
             Request::Rename { name, to } => self.rename(alloc, world, name, to),
+            Request::RenameSnapshot {
+                snapshot,
+                to,
+                recursive,
+            } => self.rename_snapshot(alloc, world, snapshot.member(), to, *recursive),
             Request::Destroy {
                 target,
                 recursive,

@@ -8,8 +8,8 @@ use crate::effect::{Effect, Performed};
 use crate::keep::Keep;
 use crate::worlds::World;
 use base::meter::SegMeter;
-use base::name::{DsName, MarkName, Tag, Target};
-use marks::{bookmark, hold, release};
+use base::name::{Component, DsName, MarkName, Member, Tag, Target};
+use marks::{bookmark, hold, release, rename_snapshot};
 use model::snap_names::SnapNames;
 use snap::clones::{clone_snapshot, promote, rename};
 use snap::{Guids, snapshot};
@@ -113,6 +113,23 @@ impl Keep {
             Some(refusal) => Err(refusal),
             None => Ok(Effect::Nothing),
         }
+    }
+
+    /// Renames a snapshot, and with `recursive` those of its name below. At `Err` the world is unchanged. It costs what `marks::rename_snapshot` does.
+    pub(crate) fn rename_snapshot(
+        &self,
+        alloc: Global,
+        world: &mut World,
+        name: &Member,
+        to: &Component,
+        recursive: bool,
+    ) -> Performed<'static>
+        requires { IsHeld self.now world.old }
+        ensures performed { IsPerformed (state_in self.now world.old) self.now.numbers.present world.new (Request.RenameSnapshot name.now to.now recursive) result }
+        ensures unchanged { OnErr result (world.new ≡ world.old) }
+    {
+        rename_snapshot(alloc, &mut world.table, &self.views, name, to, recursive)?;
+        Ok(Effect::Nothing)
     }
 
     /// Adds a hold with this tag to a snapshot. At `Err` the world is unchanged. It costs what `marks::hold` does.

@@ -1,6 +1,6 @@
 //! Script lines, asked of a pool in one of its ways.
 use crate::destroys::destroy_of;
-use crate::renames::rename_of;
+use crate::renames::{rename_of, snapshot_rename_of};
 use base::refusal::Refusal;
 use model::reply::Reply;
 use model::request::Request;
@@ -82,13 +82,14 @@ impl AskedPool {
     }
 
     /// Asks a line in a way, and tells its reply. A line that begins with `destroys` is a destroy of several snapshots, and one that begins with
-    /// `rename` is a rename.
+    /// `rename` or `rename_snapshot` is a rename of a file system or of a snapshot.
     pub fn ask_line(&mut self, way: Way, line: &str, told: &mut Vec<u8>) -> Result<(), AllocError> {
         self.way = way;
         let (word, words) = parted(line);
         match word {
             "destroys" => self.ask_request(destroy_of(self.alloc, words), told),
             "rename" => self.ask_request(rename_of(self.alloc, words), told),
+            "rename_snapshot" => self.ask_request(snapshot_rename_of(self.alloc, words), told),
             _ => ask(self.alloc, self, line, told),
         }
     }

@@ -12,11 +12,13 @@
 //! | `0 list LINE; LINE` | by `Pool::run`: the replies, with `; ` between them |
 //! | `0 destroys [-r] [-d] SNAP ..` | by `Pool::apply`, a destroy of the snapshots of a list, which may be empty; behind `apply`, `two` and `left` it stands for a LINE |
 //! | `0 rename NAME TO` | the same with a rename of a file system |
+//! | `0 rename_snapshot NAME TO [-r]` | the same with a rename of a snapshot, whose name is whole; the new one is a component |
 //! | `0 take MODE SNAP HEX` | a receive in a mode: `plain`, `back`, `past`, `replace`, or the name of the snapshot that is to be its origin |
 //! | `0 stops LINE` | how many blocks the line writes, where an image that was stopped after any of them has the datasets of the last synced world as they were; or `no` |
 //! | `0 walks now`, `0 walks last` | how many datasets the present or the last synced world has, how many leaves their walks in the image find, and a sum of all |
 //! | `0 root` | the birth of the first dataset's root, the digits of its first pointer behind the block's number, and how many bytes behind that pointer aren't zero |
 //! | `0 keeps` | how often the image was told the numbers that it keeps, which is once a sync |
+//! | `0 meters` | how many nodes of trees the pool's requests have reached, and how many segments and entries of dead lists |
 //! | `0 alike` | whether the other pool has the same blocks at the same numbers, in both worlds |
 //! | `0 same LINE; LINE` | whether two lines ask the same |
 //!

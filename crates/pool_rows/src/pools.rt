@@ -41,7 +41,7 @@ impl Pools {
             "make" => self.make(place, rest, told),
             "alike" => self.alike(told),
             "same" => self.same(rest, told),
-            "destroys" | "rename" => self.asked(place, "apply", row, told),
+            "destroys" | "rename" | "rename_snapshot" => self.asked(place, "apply", row, told),
             _ => self.asked(place, word, rest, told),
         }
     }
@@ -114,6 +114,7 @@ impl Pools {
             "walks" => tell_walks(alloc, &asked.pool, rest == "last", told),
             "root" => tell_root(alloc, &asked.pool, told),
             "keeps" => tell_number(alloc, told, asked.pool.image().keeps()),
+            "meters" => tell_meters(alloc, &asked.pool, told),
             _ => tell(told, "unknown"),
         }
     }
@@ -141,6 +142,13 @@ fn tell_stops(
         Ok(None) => tell(told, "no"),
         Err(refusal) => tell_refusal(alloc, told, refusal),
     }
+}
+
+fn tell_meters(alloc: Global, pool: &Pool, told: &mut Vec<u8>) -> Result<(), AllocError> {
+    let (nodes, segments) = pool.meters();
+    tell_number(alloc, told, nodes)?;
+    tell(told, " ")?;
+    tell_number(alloc, told, segments)
 }
 
 fn tell_walks(

@@ -12,11 +12,11 @@ use batch::Update;
 use std::alloc::Global;
 use stream::Record;
 
-/// What a record does to a live tree, with the bytes of a write lent by the record.
-fn update_of(record: &Record) -> Update<'_>
-    ensures { record_of result ≡ record.now }
+/// What a record that was read does to a live tree, with the bytes of a write lent by the record.
+fn update_of(read: &Record) -> Update<'_>
+    ensures { record_of result ≡ read.now }
 {
-    match record {
+    match read {
         Record::Write { leaf, bytes } => Update::Write {
             leaf: *leaf,
             bytes: bytes.as_array(),

@@ -23,6 +23,7 @@ use Rattle.model.specs.Hierarchy.{is_in_family}
 use Rattle.world.proofs.lists.Maps.{some_of, entry_of, at_entry}
 use Rattle.world.proofs.lists.Listed.{map_in}
 use Rattle.world.proofs.lists.Finding.{in_filter, filter_all, name_itself}
+use Rattle.world.proofs.steps.States.{positive}
 use Rattle.removals.specs.Needs.{is_held_after}
 use Rattle.removals.specs.Families.{family_refusal, is_outside_clone, AreClonesInside}
 use Rattle.removals.specs.Requests.{destroy_refusal}
@@ -132,10 +133,6 @@ module _ (t : Datasets) (good : AreFileSystems t.file_systems t.group) (views : 
           ∙ sym (ap (λ b. cond {A = Option Refusal} b (Some HasChildren) None) (lt-ltb 0 (length (u ∷ us)) (omega arith)))
           ∙ sym (ap (λ (l : List Snap). cond {A = Option Refusal} (nat_lt 0 (length l)) (Some HasChildren) None) e)
 
-some_in : {A : Type 0} (xs : List A) (a : A) → IsIn xs a → nat_lt 0 (length xs) ≡ true
-some_in [] a i = absurd i
-some_in (x ∷ xs) a i = lt-ltb 0 (length (x ∷ xs)) (omega arith)
-
 none_in : {A : Type 0} (xs : List A) → nat_lt 0 (length xs) ≡ false → xs ≡ []
 none_in [] e = refl
 none_in (x ∷ xs) e = absurd (true≢false (sym (lt-ltb 0 (length (x ∷ xs)) (omega arith)) ∙ e))
@@ -212,7 +209,7 @@ module _ (t : Datasets) (good : AreFileSystems t.file_systems t.group) (views : 
             not_root = other_name name root_stays;
             childless = λ q p some parent. let s = some_of (get t.file_systems q) some in
                 let child : option_map_or (same_name name) (parent_of q) false ≡ true = ap (λ (y : Option (List ℕ)). option_map_or (same_name name) y false) (p.named ∙ ap Some parent) ∙ name_itself name in
-                true≢false (sym (some_in (children_of (world_of t) name) q
+                true≢false (sym (positive (children_of (world_of t) name) q
                 (in_filter (λ n. option_map_or (same_name name) (parent_of n) false) (keys t.file_systems) q
                 (map_in (λ (r : Entry). r.0) (entries t.file_systems) (q, s.0) (in_entries (entries t.file_systems) q s.0 (entry_of name_order t.file_systems q s.0 s.1)))
                 child)) ∙ or_left (has_children t name) (nat_lt 0 (length f.snaps)) free);

@@ -2,5 +2,3 @@
 pub mod Taking
 -- What the requests leave of datasets, and why they are refused.
 pub mod Requests
--- Names that would be too long under another name.
-pub mod Lengths

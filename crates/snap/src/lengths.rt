@@ -4,7 +4,7 @@ ghost use Rattle.std.specs.List.{list_any};
 ghost use Rattle.model.specs.requests.Rollback.{snaps_upto};
 ghost use Rattle.world.specs.Worlds.{AreRising};
 ghost use Rattle.snapshots.specs.Marks.{name_in};
-ghost use Rattle.snap.specs.Lengths.{is_long, any_long, has_long};
+ghost use Rattle.model.specs.Lengths.{is_long, any_long, has_long};
 
 use base::name::{Component, NAME_LIMIT};
 use base::number::Group;

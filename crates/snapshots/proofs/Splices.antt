@@ -1,5 +1,5 @@
 -- The snapshots once one is gone, or another is in its place, and an index over them.
-use Rattle.std.proofs.Common.{◌≡◌, ℕ, zero, suc, ◌+◌, Bool, true, false, cond, List, [], ◌∷◌, set, slice_get, Option, Some, None, is_some, refl, sym, ap, subst, ◌∙◌, true≢false, add-one, ◌++◌}
+use Rattle.std.proofs.Common.{◌≡◌, ℕ, zero, suc, ◌+◌, ◌<◌, length, arith, Bool, true, false, cond, List, [], ◌∷◌, set, slice_get, Option, Some, None, is_some, refl, sym, ap, subst, ◌∙◌, true≢false, add-one, ◌++◌}
 use Rattle.std.specs.Prelude.{remove, IfSome}
 use Rattle.std.specs.List.{find}
 use Rattle.std.specs.Option.{IsSome, option_map}
@@ -161,3 +161,33 @@ once_with ks i y o at = let k = named_at (slice_get ks i) y.snapshot.name at in 
     by [] i k o e s = absurd (nothing i k e)
     by (x ∷ ks) zero k o e s = let same : x ≡ k = cc in (ap (λ n. find (is_named n) ks) (sym (ap (λ (z : Kept). z.snapshot.name) same ∙ s)) ∙ o.0, o.1)
     by (x ∷ ks) (suc i) k o e s = (none_set x.snapshot.name ks i k e s o.0, by ks i k o.1 e s)
+
+-- ---- another name at a place
+
+none_split : (b : Bool) (k : Kept) (o : Option Kept) → cond b (Some k) o ≡ None → (b ≡ false) × (o ≡ None)
+none_split true k o e = absurd cc
+none_split false k o e = (refl, e)
+
+-- one of a new name is found at its place as it would be in front
+found_moved : (ks : List Kept) (i : ℕ) (y : Kept) → i < length ks → find (is_named y.snapshot.name) ks ≡ None → (q : List ℕ) → find (is_named q) (y ∷ remove ks i) ≡ find (is_named q) (set ks i y)
+found_moved [] i y lt none q = absurd (omega arith)
+found_moved (k ∷ ks) zero y lt none q = refl
+found_moved (k ∷ ks) (suc i) y lt none q =
+    let n = none_split (is_named y.snapshot.name k) k (find (is_named y.snapshot.name) ks) none in
+    swapped (is_named q y) (is_named q k) y k (find (is_named q) (remove ks i))
+    (λ a b. true≢false (sym b ∙ ap (same_name k.snapshot.name) (sym (same_text y.snapshot.name q (sym a))) ∙ n.0))
+    ∙ ap (cond (is_named q k) (Some k)) (found_moved ks i y (omega arith) n.1 q)
+
+-- where one goes, no other comes
+pub none_left : (ks : List Kept) (i : ℕ) (q : List ℕ) → find (is_named q) ks ≡ None → find (is_named q) (remove ks i) ≡ None
+none_left [] zero q e = refl
+none_left [] (suc i) q e = refl
+none_left (k ∷ ks) zero q e = (none_split (is_named q k) k (find (is_named q) ks) e).1
+none_left (k ∷ ks) (suc i) q e =
+    let n = none_split (is_named q k) k (find (is_named q) ks) e in
+    ap (λ b. cond b (Some k) (find (is_named q) (remove ks i))) n.0 ∙ none_left ks i q n.1
+
+-- an index of that one in front of the others is one of the list with it at its place
+pub index_moved : (o : Option (List Kept)) (ks : List Kept) (i : ℕ) (y : Kept) → i < length ks → find (is_named y.snapshot.name) ks ≡ None → IsIndex o (y ∷ remove ks i) → IsIndex o (set ks i y)
+index_moved None ks i y lt none own = tt
+index_moved (Some b) ks i y lt none own = λ q. own q ∙ found_moved ks i y lt none q

@@ -105,6 +105,14 @@ impl Snapshot {
         })
     }
 
+    /// Gives it another name within its file system (zfs-rename(8)). Constant time.
+    pub fn set_name(&mut self, name: Component)
+        ensures { self.new ≡ record self.old { name = name } }
+    {
+        self.head = head_of(name.as_bytes());
+        self.name = name;
+    }
+
     /// Marks its destroy as deferred (zfs-destroy(8), -d). Constant time.
     pub fn defer(&mut self)
         ensures { self.new ≡ record self.old { deferred = true } }

@@ -145,6 +145,25 @@ impl SnapshotList {
         Ok(())
     }
 
+    /// Replaces the snapshot at that place, counted from 0, with this one, whose name none of them has. Names must be unique. It costs the length of
+    /// the name that goes, the logarithm of the number of snapshots, a walk over the chunks, and at most a chunk of the list and five of the index,
+    /// which are changed in place where no copy shares them. NoMemory where there is none for it; then all are as they were.
+    pub fn rename(&mut self, alloc: Global, place: usize, kept: Kept) -> Result<(), Refusal>
+        requires there { place < length self.old }
+        requires once { AreNamesOnce self.old }
+        requires free { find (λ k. same_name k.snapshot.name kept.snapshot.name) self.old ≡ None }
+        ensures ok { OnOk result (self.new ≡ slice_set self.old place kept) }
+        ensures err { OnErr result (self.new ≡ self.old) }
+        ensures only { IfErr result (λ e. e ≡ Refusal.NoMemory) }
+    {
+        let old_name = name_at(&self.kept, place)?;
+        let kept = Arc::new(alloc, kept)?;
+        self.kept.set_shared(place, Arc::try_clone(&kept)?)?;
+        forget(&mut self.by_name, old_name.as_bytes());
+        index(&mut self.by_name, kept);
+        Ok(())
+    }
+
     /// Removes the snapshot at that place, counted from 0, and replaces the one after it with `next`, which has the same name as that one. Names
     /// must be unique. It costs the number of chunks, which is at most a 32nd of the number of snapshots, and at most three chunks of the list
     /// and of the index. NoMemory where there is none for it; then all are as they were.

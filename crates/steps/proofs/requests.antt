@@ -16,6 +16,7 @@ pub mod Slicing
 pub mod Cloning
 pub mod Promoting
 pub mod Renaming
+pub mod Naming
 pub mod Labelling
 pub mod Tagging
 pub mod Holding

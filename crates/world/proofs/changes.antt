@@ -5,6 +5,7 @@ pub mod Creations
 pub mod Writes
 pub mod Promotions
 pub mod Renames
+pub mod SnapNames
 pub mod FreshNumbers
 pub mod LiveMaps
 pub mod Plans

@@ -4,6 +4,7 @@ pub mod ViewedClones
 pub mod ViewedRequests
 pub mod ViewedReceives
 pub mod ViewedRenames
+pub mod ViewedSnapNames
 pub mod ViewedSteps
 pub mod ViewedRules
 pub mod Runs

@@ -2,7 +2,7 @@
 //! ([`Answer::code`](c_api::Answer)), and has that call's contract.
 ghost use Rattle.std.specs.Prelude.{◌≡◌, Some, None};
 ghost use Rattle.c_api.specs.Answers.{Codes};
-ghost use Rattle.c_api.specs.Asking.{asked_create, asked_clone, asked_destroy, asked_destroy_snapshots, asked_promote, asked_rename, asked_rollback, asked_snapshot, asked_bookmark, asked_hold, asked_release, asked_holds};
+ghost use Rattle.c_api.specs.Asking.{asked_create, asked_clone, asked_destroy, asked_destroy_snapshots, asked_promote, asked_rename, asked_rename_snapshot, asked_rollback, asked_snapshot, asked_bookmark, asked_hold, asked_release, asked_holds};
 ghost use Rattle.c_api.specs.Asking.{asked_punch, asked_free_object, asked_written_since, asked_would_free, mode_at, property_at, pool_property_at, limit_at};
 ghost use Rattle.script.specs.Words.{amount_of_bytes};
 ghost use Rattle.c_api.specs.Calls.{Calls, Creates, Does, Writes, ReadsBlock, TellsNumber, GetsOf, PoolGetsOf, SetsOf, ReceivesOf, Syncs, Slices, OpensView, Lists, NamesPiece, Sends, Answers, RepliesPiece, StreamsPiece, Forgotten};
@@ -276,6 +276,20 @@ pub extern "C" fn yuzgont_rename(alloc: Global, pool: &mut YuzPool, name: &[u8],
     ensures { Codes result (λ answer. Calls (Does (asked_rename name.now to.now)) pool.old.slot.host answer pool.new.slot.host) }
 {
     pool.rename(alloc, name, to).code()
+}
+
+/// Renames a snapshot, as `YuzPool::rename_snapshot`.
+#[unsafe(no_mangle)]
+pub extern "C" fn yuzgont_rename_snapshot(
+    alloc: Global,
+    pool: &mut YuzPool,
+    name: &[u8],
+    to: &[u8],
+    recursive: bool,
+) -> i32
+    ensures { Codes result (λ answer. Calls (Does (asked_rename_snapshot name.now to.now recursive)) pool.old.slot.host answer pool.new.slot.host) }
+{
+    pool.rename_snapshot(alloc, name, to, recursive).code()
 }
 
 /// Rolls back to a snapshot, as `YuzPool::rollback`.

@@ -241,6 +241,74 @@ class Renames(Case):
         self.assertEqual((self.pool.get("p/q", "used"), self.pool.get("p/q", "available")), (FIRST, 0))
 
 
+class RenamesOfSnapshots(Case):
+    """p/a, p/a/x and p/a/x/y, of which p/a/x has no snapshot s, and a clone p/c of p/a@s with p/c@s."""
+
+    def setUp(self):
+        super().setUp()
+        self.pool.create("p/a")
+        self.pool.write("p/a", 0, 0, filled(1))
+        self.pool.snapshot("p/a@s")
+        self.pool.bookmark("p/a@s", "p/a#s")
+        self.pool.write("p/a", 0, 0, filled(2))
+        self.pool.snapshot("p/a@t")
+        for name in ("p/a/x", "p/a/x/y"):
+            self.pool.create(name)
+        self.pool.snapshot("p/a/x/y@s")
+        self.pool.clone("p/a@s", "p/c")
+        self.pool.snapshot("p/c@s")
+        self.pool.hold("kept", "p/a@s")
+
+    def test_its_name_alone_changes(self):
+        sent, guid = self.pool.send("p/a@t", "p/a@s"), self.pool.get("p/a@s", "guid")
+        self.pool.rename_snapshot("p/a@s", "u")
+        self.assertEqual(self.pool.list(), ["p", "p/a", "p/a@u", "p/a@t", "p/a#s", "p/a/x", "p/a/x/y", "p/a/x/y@s", "p/c", "p/c@s"])
+        self.assertEqual(self.pool.get("p/c", "origin"), "p/a@u")
+        self.assertEqual(self.pool.get("p/a@u", "clones"), ["p/c"])
+        self.assertEqual(self.pool.holds("p/a@u"), ["kept"])
+        self.assertEqual([self.pool.get(name, "guid") for name in ("p/a@u", "p/a#s")], [guid, guid])
+        self.assertEqual(self.pool.read("p/a@u", 0, 0), filled(1))
+        self.assertEqual(self.pool.send("p/a@t", "p/a@u"), sent)
+        self.refused(yuzgont.NoDataset, self.pool.read, "p/a@s", 0, 0)
+
+    def test_those_below_go_with_it(self):
+        self.pool.rename_snapshot("p/a@s", "u", recursive=True)
+        self.assertEqual(self.pool.list(), ["p", "p/a", "p/a@u", "p/a@t", "p/a#s", "p/a/x", "p/a/x/y", "p/a/x/y@u", "p/c", "p/c@s"])
+        self.assertEqual(self.pool.get("p/c", "origin"), "p/a@u")
+        self.assertEqual(self.pool.holds("p/a@u"), ["kept"])
+
+    def test_an_abandon_takes_it_back(self):
+        before = self.told()
+        self.pool.sync()
+        self.pool.rename_snapshot("p/a@s", "u", recursive=True)
+        self.pool.abandon()
+        self.assertEqual(self.told()[0], before[0])
+
+    def test_what_is_refused(self):
+        self.pool.snapshot("p/a/x/y@w")
+        for name in ("p/a@none", "p/none@s", "p/a/x@s"):
+            self.refused(yuzgont.NoDataset, self.pool.rename_snapshot, name, "u", True)
+        for name, recursive in (("t", False), ("s", False), ("w", True)):
+            self.refused(yuzgont.Exists, self.pool.rename_snapshot, "p/a@s", name, recursive)
+        for name in ("p/a@u", "u v", "l" * 252, ""):
+            self.refused(yuzgont.BadName, self.pool.rename_snapshot, "p/a@s", name)
+        self.refused(yuzgont.BadName, self.pool.rename_snapshot, "p/a@s", "l" * 248, True)
+        for name in ("p/a", "p/a#s", ""):
+            self.refused(yuzgont.BadName, self.pool.rename_snapshot, name, "u")
+        self.assertRaises(TypeError, self.pool.rename_snapshot, "p/a@s", b"u")
+        self.assertIn("rename -r p/a@none u", str(self.refused(yuzgont.NoDataset, self.pool.rename_snapshot, "p/a@none", "u", True)))
+        self.pool.rename_snapshot("p/a@s", "l" * 247, True)
+        self.pool.rename_snapshot("p/a@t", "l" * 251)
+
+    def test_a_view_keeps_the_name(self):
+        with self.pool.view("p/a/x/y@s") as view:
+            self.refused(yuzgont.Busy, self.pool.rename_snapshot, "p/a/x/y@s", "u")
+            self.refused(yuzgont.Busy, self.pool.rename_snapshot, "p/a@s", "u", True)
+            self.pool.rename_snapshot("p/a@s", "u")
+            self.assertIsNone(view.read(0, 0))
+        self.pool.rename_snapshot("p/a/x/y@s", "u")
+
+
 class Space(Case):
     def test_limits(self):
         for prop, size in (("quota", 102400), ("refquota", 51200), ("reservation", 20480), ("refreservation", 10240)):

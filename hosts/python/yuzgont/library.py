@@ -30,6 +30,7 @@ _PARAMETERS = {
     "snapshot": (*_BYTES, c_bool),
     "destroy_snapshots": (*_BYTES, c_bool, c_bool),
     "rename": (*_BYTES, *_BYTES),
+    "rename_snapshot": (*_BYTES, *_BYTES, c_bool),
     "get": (*_BYTES, c_uint32, _NUMBER),
     "sync": (_NUMBER,),
     "slice": (c_uint64, _NUMBER),

@@ -151,6 +151,13 @@ class Pool:
         old, new = _word(name).encode(), _word(to).encode()
         self._do("rename", old, len(old), new, len(new), what=f"rename {name} {to}")
 
+    def rename_snapshot(self, name, to, recursive=False):
+        """Renames a snapshot within its file system: `name` is its whole name, and `to` the new part after the "@". With `recursive` the snapshots of
+        its name in all file systems below are renamed too; one that has none stays as it is. Exists where one of these file systems has a snapshot of
+        the new name, and Busy while a view of one that would be renamed is open."""
+        old, new = _word(name).encode(), _word(to).encode()
+        self._do("rename_snapshot", old, len(old), new, len(new), bool(recursive), what=f"rename{' -r' * bool(recursive)} {name} {to}")
+
     def list(self):
         """The names of all file systems in byte order, each with its snapshots, oldest first, and then its bookmarks."""
         return self._line("list").split()

@@ -141,6 +141,13 @@ impl Pool {
         Error::check(unsafe { sys::yuzgont_rename(self.handle(), name.as_ptr(), name.len(), to.as_ptr(), to.len()) })
     }
 
+    /// Renames a snapshot within its file system: `name` is its whole name, and `to` the new part after the `@`. With `recursive` the snapshots of
+    /// its name in all file systems below are renamed too; one that has none stays as it is. `Exists` where one of these file systems has a snapshot
+    /// of the new name, and `Busy` while a view of one that would be renamed is open.
+    pub fn rename_snapshot(&mut self, name: &str, to: &str, recursive: bool) -> Result<(), Error> {
+        Error::check(unsafe { sys::yuzgont_rename_snapshot(self.handle(), name.as_ptr(), name.len(), to.as_ptr(), to.len(), recursive) })
+    }
+
     /// Makes a file system as its snapshot is; with `later` newer snapshots and bookmarks go.
     pub fn rollback(&mut self, snapshot: &str, later: bool) -> Result<(), Error> {
         Error::check(unsafe { sys::yuzgont_rollback(self.handle(), snapshot.as_ptr(), snapshot.len(), later) })

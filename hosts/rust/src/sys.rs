@@ -38,6 +38,7 @@ extern "C" {
     pub fn yuzgont_destroy_snapshots(pool: *mut Handle, names: *const u8, names_length: usize, recursive: bool, defer: bool) -> i32;
     pub fn yuzgont_promote(pool: *mut Handle, name: *const u8, name_length: usize) -> i32;
     pub fn yuzgont_rename(pool: *mut Handle, name: *const u8, name_length: usize, to: *const u8, to_length: usize) -> i32;
+    pub fn yuzgont_rename_snapshot(pool: *mut Handle, name: *const u8, name_length: usize, to: *const u8, to_length: usize, recursive: bool) -> i32;
     pub fn yuzgont_rollback(pool: *mut Handle, snapshot: *const u8, snapshot_length: usize, later: bool) -> i32;
     pub fn yuzgont_bookmark(pool: *mut Handle, snapshot: *const u8, snapshot_length: usize, mark: *const u8, mark_length: usize) -> i32;
     pub fn yuzgont_hold(pool: *mut Handle, tag: *const u8, tag_length: usize, snapshot: *const u8, snapshot_length: usize) -> i32;

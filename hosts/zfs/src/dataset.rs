@@ -1,11 +1,11 @@
-//! The datasets of a pool, with what the layer hasn't of them: names of snapshots and bookmarks, times, properties, kinds.
+//! The datasets of a pool, with what the layer hasn't of them: times, properties, kinds, names of bookmarks and tags.
 //!
-//! The layer knows a file system by its name (`name::in_layer`), and a snapshot or bookmark by a component that no other of the pool has. So a
-//! snapshot is renamed here alone, and a promote moves what is kept of a snapshot with it.
+//! The layer knows a file system and a snapshot by its name (`name::in_layer`), a bookmark by a number of its file system, and a tag by one of its
+//! snapshot.
 
 use crate::name;
 use crate::stream::Partial;
-use std::collections::{BTreeMap, BTreeSet, HashMap, HashSet};
+use std::collections::{BTreeMap, BTreeSet, HashSet};
 use std::fmt;
 use std::ops::Bound;
 use std::rc::Rc;
@@ -60,9 +60,8 @@ pub struct FileSystem {
 
 #[derive(Clone, Debug)]
 pub struct Snapshot {
-    /// What stands after `@`, here and in the layer.
+    /// What stands after `@`.
     pub name: String,
-    pub component: String,
     pub guid: u64,
     pub creation: i64,
     pub create_txg: u64,
@@ -75,18 +74,18 @@ pub struct Snapshot {
     pub holds: BTreeMap<String, Hold>,
 }
 
-/// A tag that keeps a snapshot: when it was put, and what the layer calls it.
-#[derive(Clone, Debug, PartialEq, Eq)]
+/// A tag that keeps a snapshot: when it was put, and its number in the layer.
+#[derive(Clone, Copy, Debug, PartialEq, Eq)]
 pub struct Hold {
     pub time: i64,
-    pub tag: String,
+    pub number: u64,
 }
 
 #[derive(Clone, Debug)]
 pub struct Bookmark {
     pub name: String,
-    /// The layer's. A bookmark of a bookmark has the same.
-    pub component: String,
+    /// What stands after `#` in the layer. A bookmark of a bookmark has the same.
+    pub number: u64,
     pub guid: u64,
     pub creation: i64,
     pub create_txg: u64,
@@ -103,10 +102,27 @@ impl FileSystem {
         self.bookmarks.iter().find(|bookmark| bookmark.name == component)
     }
 
+    /// A number that none of its bookmarks has.
+    pub fn next_bookmark(&self) -> u64 {
+        above(self.bookmarks.iter().map(|bookmark| bookmark.number))
+    }
+
     /// A value of its own that is a number.
     pub fn number(&self, property: &str) -> Option<u64> {
         self.local.get(property)?.parse().ok()
     }
+}
+
+impl Snapshot {
+    /// A number that none of its tags has.
+    pub fn next_tag(&self) -> u64 {
+        above(self.holds.values().map(|hold| hold.number))
+    }
+}
+
+/// The least number above all of these.
+fn above(numbers: impl Iterator<Item = u64>) -> u64 {
+    numbers.max().map_or(0, |most| most + 1)
 }
 
 /// A dataset that a name has found.
@@ -164,39 +180,17 @@ impl Dataset {
 #[derive(Clone, Debug)]
 pub struct Tree {
     file_systems: BTreeMap<String, Rc<FileSystem>>,
-    next_component: u64,
     next_objset: u64,
-}
-
-const DIGITS: &[u8; 36] = b"0123456789abcdefghijklmnopqrstuvwxyz";
-
-/// A number in digits and lower letters.
-fn short(mut number: u64) -> String {
-    let mut digits = Vec::new();
-    loop {
-        digits.push(DIGITS[(number % 36) as usize]);
-        number /= 36;
-        if number == 0 {
-            break;
-        }
-    }
-    digits.iter().rev().map(|&digit| digit as char).collect()
 }
 
 impl Tree {
     pub fn new() -> Tree {
-        Tree { file_systems: BTreeMap::new(), next_component: 0, next_objset: 54 }
+        Tree { file_systems: BTreeMap::new(), next_objset: 54 }
     }
 
     pub fn next_objset(&mut self) -> u64 {
         self.next_objset += 1;
         self.next_objset
-    }
-
-    /// A component that no snapshot or bookmark of the pool has.
-    pub fn next_component(&mut self) -> String {
-        self.next_component += 1;
-        short(self.next_component)
     }
 
     pub fn get(&self, name: &str) -> Option<&Rc<FileSystem>> {
@@ -260,18 +254,15 @@ impl Tree {
     }
 
     pub fn snapshot_of(&self, name: &str, base: &Rc<FileSystem>, snapshot: &Rc<Snapshot>) -> Dataset {
-        Dataset {
-            name: format!("{name}@{}", snapshot.name),
-            path: format!("{}@{}", name::in_layer(name), snapshot.component),
-            base: Rc::clone(base),
-            part: Part::Snapshot(Rc::clone(snapshot)),
-        }
+        let whole = format!("{name}@{}", snapshot.name);
+        let path = name::in_layer(&whole);
+        Dataset { name: whole, path, base: Rc::clone(base), part: Part::Snapshot(Rc::clone(snapshot)) }
     }
 
     pub fn bookmark_of(&self, name: &str, base: &Rc<FileSystem>, bookmark: &Rc<Bookmark>) -> Dataset {
         Dataset {
             name: format!("{name}#{}", bookmark.name),
-            path: format!("{}#{}", name::in_layer(name), bookmark.component),
+            path: format!("{}#{}", name::in_layer(name), bookmark.number),
             base: Rc::clone(base),
             part: Part::Bookmark(Rc::clone(bookmark)),
         }
@@ -310,13 +301,9 @@ impl Tree {
         base.bookmarks.iter().map(|it| self.bookmark_of(name, base, it)).collect()
     }
 
-    /// The name of what the layer calls so.
+    /// The name of the file system or snapshot that the layer calls so.
     pub fn named(&self, path: &str) -> Option<String> {
-        let name = name::out_of_layer(self.pool(), name::base(path))?;
-        match name::snapshot(path) {
-            Some(component) => self.get(&name)?.snapshots.iter().find(|it| it.component == component).map(|it| format!("{name}@{}", it.name)),
-            None => Some(name),
-        }
+        name::out_of_layer(self.pool(), path)
     }
 
     /// The root's name, which stands before all others.
@@ -324,25 +311,45 @@ impl Tree {
         self.file_systems.keys().next().map_or("", String::as_str)
     }
 
-    /// Brings the tree to what the layer lists: what is gone there goes here, and snapshots stand where they stand there.
+    /// Takes away what the layer doesn't list.
     pub fn follow(&mut self, listing: &str) {
-        let mut snapshots: HashMap<String, Rc<Snapshot>> = HashMap::new();
-        let mut bookmarks: HashMap<String, Vec<Rc<Bookmark>>> = HashMap::new();
-        for file_system in self.file_systems.values_mut().map(Rc::make_mut) {
-            snapshots.extend(file_system.snapshots.drain(..).map(|it| (it.component.clone(), it)));
-            for bookmark in file_system.bookmarks.drain(..) {
-                bookmarks.entry(bookmark.component.clone()).or_default().push(bookmark);
+        let listed: HashSet<&str> = listing.split(' ').collect();
+        self.file_systems.retain(|name, file_system| {
+            let path = name::in_layer(name);
+            let is_left = listed.contains(path.as_str());
+            if is_left {
+                keep_listed(file_system, &path, &listed);
+            }
+            is_left
+        });
+    }
+
+    /// Gives a snapshot another name, and with `is_recursive` those of its name in all file systems below.
+    pub fn rename_snapshot(&mut self, base: &str, old: &str, new: &str, is_recursive: bool) {
+        for name in if is_recursive { self.with_below(base) } else { vec![base.to_owned()] } {
+            if let Some(snapshot) = self.edit_snapshot(&format!("{name}@{old}")) {
+                new.clone_into(&mut snapshot.name);
             }
         }
-        let mut left = HashSet::new();
-        for word in listing.split(' ') {
-            let Some(name) = name::out_of_layer(self.pool(), name::base(word)) else { continue };
-            let Some(file_system) = self.file_systems.get_mut(&name).map(Rc::make_mut) else { continue };
-            left.insert(name);
-            file_system.snapshots.extend(name::snapshot(word).and_then(|component| snapshots.remove(component)));
-            file_system.bookmarks.extend(name::bookmark(word).and_then(|component| bookmarks.remove(component)).unwrap_or_default());
+    }
+
+    /// Moves the oldest snapshots of a file system before those of its clone.
+    pub fn promote(&mut self, clone: &str, base: &str, count: usize) {
+        let moved: Vec<Rc<Snapshot>> = self.edit(base).map(|it| it.snapshots.drain(..count).collect()).unwrap_or_default();
+        if let Some(clone) = self.edit(clone) {
+            clone.snapshots.splice(..0, moved);
         }
-        self.file_systems.retain(|name, _| left.contains(name));
+    }
+}
+
+/// Takes away the snapshots and bookmarks of a file system that the layer doesn't list. Where all are listed it stays shared.
+fn keep_listed(file_system: &mut Rc<FileSystem>, path: &str, listed: &HashSet<&str>) {
+    let has_snapshot = |it: &Rc<Snapshot>| listed.contains(format!("{path}@{}", name::spelt(&it.name)).as_str());
+    let has_bookmark = |it: &Rc<Bookmark>| listed.contains(format!("{path}#{}", it.number).as_str());
+    if !file_system.snapshots.iter().all(has_snapshot) || !file_system.bookmarks.iter().all(has_bookmark) {
+        let changed = Rc::make_mut(file_system);
+        changed.snapshots.retain(has_snapshot);
+        changed.bookmarks.retain(has_bookmark);
     }
 }
 
@@ -376,10 +383,9 @@ mod tests {
         }
     }
 
-    fn snapshot(name: &str, component: &str) -> Rc<Snapshot> {
+    fn snapshot(name: &str) -> Rc<Snapshot> {
         Rc::new(Snapshot {
             name: name.into(),
-            component: component.into(),
             guid: 1,
             creation: 0,
             create_txg: 1,
@@ -397,17 +403,17 @@ mod tests {
         for name in ["tank", "tank/a", "tank/a/b", "tank/a-c"] {
             tree.insert(name.into(), file_system());
         }
-        tree.edit("tank/a").unwrap().snapshots.extend([snapshot("old", "1"), snapshot("new", "2")]);
+        tree.edit("tank/a").unwrap().snapshots.extend(["old", "new"].map(snapshot));
         tree
     }
 
     #[test]
     fn names_and_paths_find_each_other() {
         let tree = tree();
-        assert_eq!(tree.find("tank/a@new").unwrap().path, "p/a@2");
-        assert_eq!(tree.named("p/a@2").as_deref(), Some("tank/a@new"));
+        assert_eq!(tree.find("tank/a@new").unwrap().path, "p/a@new");
+        assert_eq!(tree.named("p/a@new").as_deref(), Some("tank/a@new"));
         assert_eq!(tree.named("p/a-c").as_deref(), Some("tank/a-c"));
-        assert_eq!((tree.named("-"), tree.named("p/a@3")), (None, None));
+        assert_eq!((tree.named("-"), tree.named("")), (None, None));
         assert!(!tree.has("tank/a@none") && !tree.has("tank/x") && tree.has("tank/a@old"));
     }
 
@@ -419,19 +425,31 @@ mod tests {
     }
 
     #[test]
-    fn the_tree_follows_a_promote_and_a_destroy() {
+    fn the_tree_follows_a_destroy() {
         let mut tree = tree();
         let before = tree.clone();
-        tree.follow("p p/a p/a-c p/a-c@1 p/a-c@2");
-        assert!(!tree.has("tank/a/b") && !tree.has("tank/a@old"));
-        assert_eq!(tree.snapshots("tank/a-c").iter().map(|it| it.name.clone()).collect::<Vec<_>>(), ["tank/a-c@old", "tank/a-c@new"]);
+        tree.follow("p p/a p/a@new p/a-c p/a-c@old");
+        assert!(!tree.has("tank/a/b") && !tree.has("tank/a@old") && tree.has("tank/a@new") && !tree.has("tank/a-c@old"));
         assert!(before.has("tank/a@old") && before.has("tank/a/b"));
     }
 
     #[test]
-    fn components_are_never_given_twice() {
-        let mut tree = Tree::new();
-        let many: std::collections::HashSet<String> = (0..2000).map(|_| tree.next_component()).collect();
-        assert_eq!(many.len(), 2000);
+    fn a_promote_moves_the_oldest_snapshots() {
+        let mut tree = tree();
+        tree.edit("tank/a-c").unwrap().snapshots.push(snapshot("own"));
+        tree.promote("tank/a-c", "tank/a", 1);
+        let names = |name: &str| tree.snapshots(name).into_iter().map(|it| it.name).collect::<Vec<_>>();
+        assert_eq!((names("tank/a-c"), names("tank/a")), (vec!["tank/a-c@old".into(), "tank/a-c@own".into()], vec!["tank/a@new".into()]));
+    }
+
+    #[test]
+    fn snapshots_of_a_name_are_renamed_where_they_are() {
+        let mut tree = tree();
+        tree.edit("tank/a/b").unwrap().snapshots.push(snapshot("new"));
+        tree.edit("tank/a-c").unwrap().snapshots.push(snapshot("new"));
+        tree.rename_snapshot("tank/a", "new", "newer", true);
+        assert!(tree.has("tank/a@old") && tree.has("tank/a@newer") && tree.has("tank/a/b@newer") && tree.has("tank/a-c@new"));
+        tree.rename_snapshot("tank/a", "newer", "new", false);
+        assert!(tree.has("tank/a@new") && tree.has("tank/a/b@newer"));
     }
 }

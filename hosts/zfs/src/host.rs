@@ -119,7 +119,7 @@ impl Host {
         }
     }
 
-    /// Brings the tree to what the layer lists.
+    /// Takes away from the tree what the layer doesn't list.
     pub fn follow_layer(&mut self) {
         if let Ok(listing) = self.layer.ask("list") {
             self.tree.follow(&listing);
@@ -179,29 +179,19 @@ impl Host {
 
     /// Makes snapshots of these names in one group.
     pub fn make_snapshots(&mut self, names: &[String], clock: i64, local: &Values) -> Result<(), Refusal> {
-        let mut line = String::from("snapshot");
-        let mut made = Vec::new();
-        for name in names {
-            let (base, component) = name.split_once('@').ok_or(Refusal::BadName)?;
-            let number = self.tree.next_component();
-            line += &format!(" {}@{number}", name::in_layer(base));
-            made.push((base, component, number));
-        }
-        self.layer.order(&line)?;
-        for (base, component, number) in made {
-            self.add_snapshot(base, component, number, clock, local.clone())?;
-        }
-        Ok(())
+        let paths: Vec<String> = names.iter().map(|name| name::in_layer(name)).collect();
+        self.layer.order(&format!("snapshot {}", paths.join(" ")))?;
+        names.iter().try_for_each(|name| self.add_snapshot(name, clock, local.clone()))
     }
 
     /// Takes up a snapshot that the layer has just made.
-    pub fn add_snapshot(&mut self, base: &str, name: &str, component: String, creation: i64, local: Values) -> Result<(), Refusal> {
+    pub fn add_snapshot(&mut self, name: &str, creation: i64, local: Values) -> Result<(), Refusal> {
         let objset = self.tree.next_objset();
+        let (base, component) = name.split_once('@').ok_or(Refusal::BadName)?;
         let file_system = self.tree.edit(base).ok_or(Refusal::NoDataset)?;
-        let path = format!("{}@{component}", name::in_layer(base));
+        let path = name::in_layer(name);
         let snapshot = Snapshot {
-            name: name.to_owned(),
-            component,
+            name: component.to_owned(),
             guid: self.layer.get(&path, Property::Guid)?,
             creation,
             create_txg: self.layer.get(&path, Property::CreateTxg)?,
@@ -216,20 +206,36 @@ impl Host {
         Ok(())
     }
 
+    /// Makes a snapshot of a file system for the host alone, which nobody sees, and which is destroyed by its caller: its name in the layer.
+    pub fn make_own_snapshot(&mut self, path: &str) -> Result<String, Refusal> {
+        let own = format!("{path}@{}", name::OWN);
+        self.layer.order(&format!("snapshot {own}"))?;
+        Ok(own)
+    }
+
+    /// Gives a snapshot another name within its file system, and with `is_recursive` those of its name in all file systems below: all or none.
+    pub fn rename_snapshot(&mut self, name: &str, new: &str, is_recursive: bool) -> Result<(), Refusal> {
+        let (base, old) = name.split_once('@').ok_or(Refusal::NotSnapshot)?;
+        self.layer.rename_snapshot(&name::in_layer(name), &name::spelt(new), is_recursive)?;
+        self.tree.rename_snapshot(base, old, new, is_recursive);
+        Ok(())
+    }
+
     /// Makes a bookmark of a snapshot.
     pub fn make_bookmark(&mut self, from: &Dataset, base: &str, name: &str) -> Result<(), Refusal> {
-        let component = self.tree.next_component();
         let snapshot = from.snapshot().ok_or(Refusal::NotSnapshot)?;
-        self.layer.order(&format!("bookmark {} {}#{component}", from.path, name::in_layer(base)))?;
+        let file_system = self.tree.edit(base).ok_or(Refusal::NoDataset)?;
+        let number = file_system.next_bookmark();
+        self.layer.order(&format!("bookmark {} {}#{number}", from.path, name::in_layer(base)))?;
         let bookmark = Bookmark {
             name: name.to_owned(),
-            component,
+            number,
             guid: snapshot.guid,
             creation: snapshot.creation,
             create_txg: snapshot.create_txg,
             referenced: self.layer.get(&from.path, Property::Referenced)?,
         };
-        self.tree.edit(base).ok_or(Refusal::NoDataset)?.bookmarks.push(Rc::new(bookmark));
+        file_system.bookmarks.push(Rc::new(bookmark));
         Ok(())
     }
 
@@ -301,7 +307,7 @@ pub mod tests {
         host.follow_layer();
         assert!(host.tree.has("tank/with blank@a b"));
         assert_eq!(host.tree.snapshots("tank/with blank").len(), 1);
-        assert_eq!(host.layer.ask("list").unwrap(), "p p/with:._blank p/with:._blank@1");
+        assert_eq!(host.layer.ask("list").unwrap(), "p p/with:._blank p/with:._blank@a:._b");
     }
 
     #[test]

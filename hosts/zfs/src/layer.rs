@@ -114,6 +114,11 @@ impl Layer {
         Ok(self.pool.rename(name, to)?)
     }
 
+    /// Gives a snapshot another name within its file system, and with `is_recursive` those of its name in all file systems below: all or none.
+    pub fn rename_snapshot(&mut self, name: &str, to: &str, is_recursive: bool) -> Result<(), Refusal> {
+        Ok(self.pool.rename_snapshot(name, to, is_recursive)?)
+    }
+
     /// A property that is a number.
     pub fn get(&mut self, name: &str, property: Property) -> Result<u64, Refusal> {
         Ok(self.pool.get(name, property)?)

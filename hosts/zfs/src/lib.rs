@@ -8,6 +8,7 @@ pub mod protocol;
 
 mod call;
 mod dataset;
+mod dependents;
 mod failure;
 mod host;
 mod layer;

@@ -7,6 +7,9 @@ use std::fs;
 /// The most bytes of a name.
 pub const NAME_LIMIT: usize = 255;
 
+/// What stands after `@` in the layer where the host makes a snapshot for itself. No name is spelt so: a spelt `:.` has a character behind it.
+pub const OWN: &str = ":.";
+
 /// The most file systems on the way to one.
 pub const DEPTH_LIMIT: usize = 50;
 
@@ -44,17 +47,26 @@ pub fn bookmark(name: &str) -> Option<&str> {
     name.split_once('#').map(|(_, component)| component)
 }
 
-/// A file system's name in the layer: the pool is `p` there. The layer knows no blank and no `%`, so they stand there as `:._` and `:.-`, and a
-/// `:.` as `:..`; all else is the same.
+/// A file system's or a snapshot's name in the layer: the pool is `p` there, and the rest is spelt.
 pub fn in_layer(name: &str) -> String {
-    let below = &name[pool(name).len()..];
-    format!("p{}", below.replace(":.", ":..").replace(' ', ":._").replace('%', ":.-"))
+    format!("p{}", spelt(&name[pool(name).len()..]))
 }
 
-/// The name of the file system that the layer calls so.
+/// A part of a name in the layer. The layer knows no blank and no `%`, so they stand there as `:._` and `:.-`, and a `:.` as `:..`; all else is the
+/// same.
+pub fn spelt(part: &str) -> String {
+    part.replace(":.", ":..").replace(' ', ":._").replace('%', ":.-")
+}
+
+/// The name of the file system or snapshot that the layer calls so.
 pub fn out_of_layer(pool: &str, name: &str) -> Option<String> {
     let below = name.strip_prefix('p')?;
     Some(format!("{pool}{}", below.replace(":._", " ").replace(":.-", "%").replace(":..", ":.")))
+}
+
+/// Whether a name is too long, here or in the layer. What stands after `#` isn't spelt there.
+pub fn is_too_long(name: &str) -> bool {
+    name.len() > NAME_LIMIT || bookmark(name).is_none() && in_layer(name).len() > NAME_LIMIT
 }
 
 /// Whether a file system stands below another.
@@ -66,7 +78,7 @@ fn is_valid(character: char) -> bool {
     character.is_ascii_alphanumeric() || "-_.: ".contains(character)
 }
 
-/// Checks a name that a command gives, for datasets of these kinds. A name that will be made has no `%`.
+/// Checks a name that a command gives, for datasets of these kinds. A name that will be made has no `%`, and fits into the layer.
 pub fn check(name: &str, kinds: Kinds, is_new: bool) -> Result<(), Reason> {
     if !kinds.meets(Kinds::SNAPSHOT) && name.contains('@') {
         return Err(Reason::SnapshotNotExpected);
@@ -82,6 +94,9 @@ pub fn check(name: &str, kinds: Kinds, is_new: bool) -> Result<(), Reason> {
     }
     if is_new && name.contains('%') {
         return Err(Reason::PercentInName);
+    }
+    if is_new && is_too_long(name) {
+        return Err(Reason::NameTooLong);
     }
     check_components(name)
 }
@@ -167,6 +182,7 @@ mod tests {
             for name in &longer {
                 let there = in_layer(name);
                 assert!(out_of_layer("tank", &there).as_ref() == Some(name) && !there.contains([' ', '%']), "{name}");
+                assert_ne!(&there["p/".len()..], OWN, "{name}");
             }
             names = longer;
         }
@@ -192,6 +208,15 @@ mod tests {
         }
         let length = |length: usize| check(&"a".repeat(length), Kinds::ALL, false);
         assert_eq!((length(255), length(256)), (Ok(()), Err(Reason::NameTooLong)));
+    }
+
+    #[test]
+    fn a_blank_takes_three_bytes_of_a_new_name() {
+        let blanks = |base: &str, count: usize| check(&format!("{base}{}", " ".repeat(count)), Kinds::ALL, true);
+        assert_eq!((blanks("tank/", 84), blanks("tank/", 85)), (Ok(()), Err(Reason::NameTooLong)));
+        assert_eq!((blanks("tank/a@", 83), blanks("tank/a@", 84)), (Ok(()), Err(Reason::NameTooLong)));
+        assert_eq!((blanks("tank/a#", 248), blanks("tank/a#", 249)), (Ok(()), Err(Reason::NameTooLong)));
+        assert_eq!(check(&format!("tank/a@{}", " ".repeat(248)), Kinds::ALL, false), Ok(()));
     }
 
     #[test]

@@ -283,8 +283,7 @@ impl Host {
 
     /// The stream of a file system as it is now. The snapshot for it goes again.
     fn stream_of_now(&mut self, path: &str, from: &str) -> Result<Vec<u8>, Refusal> {
-        let now = format!("{path}@{}", self.tree.next_component());
-        self.layer.order(&format!("snapshot {now}"))?;
+        let now = self.make_own_snapshot(path)?;
         let stream = self.layer.stream(&now, Some(from), 0);
         self.layer.order(&format!("destroy {now}"))?;
         stream

@@ -1,65 +1,33 @@
 //! What goes: file systems with all that depends on them, and what stands in the way of a rollback.
 
 use crate::dataset::{Dataset, Part};
+use crate::dependents::{Clones, Dependents, Purpose};
 use crate::failure::{Action, Failure, Outcome, Reason};
 use crate::host::Host;
 use crate::layer::Refusal;
 use crate::name;
-use std::collections::HashSet;
 
 impl Host {
-    /// What depends on a dataset, each after what depends on it: file systems below, then snapshots, and before each its clones.
-    pub fn dependents(&mut self, dataset: &Dataset) -> Vec<String> {
-        let mut found = Vec::new();
-        let mut seen = HashSet::from([dataset.name.clone()]);
-        self.add_dependents(dataset, &mut seen, &mut found);
-        found
-    }
-
-    fn add_dependents(&mut self, dataset: &Dataset, seen: &mut HashSet<String>, found: &mut Vec<String>) {
-        let next: Vec<Dataset> = match dataset.part {
-            Part::Bookmark(_) => Vec::new(),
-            Part::Snapshot(_) => self.clones(dataset).unwrap_or_default().iter().filter_map(|name| self.tree.whole(name)).collect(),
-            Part::Whole => {
-                let children = self.tree.children(&dataset.name);
-                let children = children.iter().filter_map(|name| self.tree.whole(name));
-                children.chain(self.tree.snapshots(&dataset.name)).collect()
-            }
-        };
-        for dependent in next {
-            if seen.insert(dependent.name.clone()) {
-                self.add_dependents(&dependent, seen, found);
-                found.push(dependent.name);
-            }
-        }
-    }
-
-    /// Destroys a file system with all below it, its snapshots and their clones elsewhere. Of a root all but itself goes.
+    /// Destroys a file system with all that depends on it. Of a root all but itself goes.
     pub fn destroy_tree(&mut self, name: &str) -> Outcome {
-        self.destroy_dependent(name, &[])
-    }
-
-    /// The same of one that goes before those of `above` can. Where it has one of them itself, none can go first.
-    fn destroy_dependent(&mut self, name: &str, above: &[&str]) -> Outcome {
-        let inside = |other: &str| other == name || name::is_below(other, name);
-        if let Some(again) = above.iter().find(|it| inside(it)) {
-            return Err(Failure::Told(format!("cannot determine dependent datasets: recursive dependency at '{again}'")));
-        }
-        for below in self.tree.with_below(name) {
-            for snapshot in self.tree.snapshots(&below) {
-                for clone in self.clones(&snapshot).unwrap_or_default() {
-                    if !inside(&clone) && self.tree.has(&clone) {
-                        self.destroy_dependent(&clone, &[above, &[name]].concat())?;
-                    }
-                }
-            }
-        }
-        if name.contains('/') {
-            self.destroy_whole(name)?;
-        } else {
-            self.empty_root(name)?;
+        // One request does it where nothing elsewhere depends on it. The layer keeps its root.
+        if !name.contains('/') || self.destroy_whole(name).is_err() {
+            self.destroy_in_order(name)?;
         }
         self.follow_layer();
+        self.destroy_snapshots(&self.tree.snapshots(name), false)
+    }
+
+    /// The same by a request for each file system, but for a root's snapshots.
+    fn destroy_in_order(&mut self, name: &str) -> Outcome {
+        let (dataset, clones) = (self.open(name)?, self.all_clones());
+        let dependents = Dependents::of(&dataset, &self.tree, &clones, Purpose::Destroy);
+        dependents.outcome?;
+        // A snapshot goes with its file system.
+        let file_systems = dependents.names.iter().map(String::as_str).chain([name]).filter(|it| it.contains('/') && !it.contains('@'));
+        for file_system in file_systems {
+            self.destroy_whole(file_system).map_err(|refusal| self.not_destroyed(file_system, refusal))?;
+        }
         Ok(())
     }
 
@@ -73,33 +41,18 @@ impl Host {
         }
     }
 
-    fn destroy_whole(&mut self, name: &str) -> Outcome {
-        if !self.tree.has(name) {
-            return Ok(());
-        }
-        let line = format!("destroy -r {}", name::in_layer(name));
-        self.layer.order(&line).map_err(|refusal| self.not_destroyed(name, refusal))
+    /// Destroys a file system with all below it, as one request of the layer.
+    fn destroy_whole(&mut self, name: &str) -> Result<(), Refusal> {
+        self.layer.order(&format!("destroy -r {}", name::in_layer(name)))
     }
 
     /// Says which snapshot is held, where one is.
-    fn not_destroyed(&mut self, name: &str, refusal: Refusal) -> Failure {
-        if refusal == Refusal::Busy {
-            let below = self.tree.with_below(name);
-            let held = below.iter().flat_map(|below| self.tree.snapshots(below)).find(|it| it.snapshot().is_some_and(|it| !it.holds.is_empty()));
-            if let Some(held) = held {
-                return Failure::Cannot(Action::DestroySnapshot(held.name), Reason::Busy);
-            }
+    fn not_destroyed(&self, name: &str, refusal: Refusal) -> Failure {
+        let is_held = |it: &Dataset| it.snapshot().is_some_and(|it| !it.holds.is_empty());
+        match self.tree.snapshots(name).into_iter().find(is_held) {
+            Some(held) if refusal == Refusal::Busy => Failure::Cannot(Action::DestroySnapshot(held.name), Reason::Busy),
+            _ => Failure::Cannot(Action::Destroy(name.to_owned()), refusal.into()),
         }
-        Failure::Cannot(Action::Destroy(name.to_owned()), refusal.into())
-    }
-
-    /// The layer keeps its root: all below it goes, and its snapshots.
-    fn empty_root(&mut self, name: &str) -> Outcome {
-        for child in self.tree.children(name) {
-            self.destroy_whole(&child)?;
-            self.follow_layer();
-        }
-        self.destroy_snapshots(&self.tree.snapshots(name), false)
     }
 
     /// Destroys snapshots, all or none of them. One that something has taken with it is gone already.
@@ -133,7 +86,7 @@ impl Host {
     /// Takes a bookmark away, and the layer's with the last that stands for it.
     pub fn remove_bookmark(&mut self, dataset: &Dataset) -> Result<(), Refusal> {
         let Part::Bookmark(bookmark) = &dataset.part else { return Err(Refusal::NoDataset) };
-        let others = dataset.base.bookmarks.iter().filter(|it| it.component == bookmark.component).count();
+        let others = dataset.base.bookmarks.iter().filter(|it| it.number == bookmark.number).count();
         if others <= 1 {
             self.layer.order(&format!("destroy {}", dataset.path))?;
         }
@@ -145,13 +98,7 @@ impl Host {
     /// Rolls a file system back to a snapshot; what is newer goes, with clones of newer snapshots.
     pub fn roll_back(&mut self, snapshot: &Dataset) -> Outcome {
         let base = name::base(&snapshot.name).to_owned();
-        for newer in self.newer_snapshots(snapshot) {
-            for clone in self.clones(&newer).unwrap_or_default() {
-                if self.tree.has(&clone) {
-                    self.destroy_tree(&clone)?;
-                }
-            }
-        }
+        self.destroy_newer_clones(snapshot)?;
         if let Err(refusal) = self.layer.order(&format!("rollback -r {}", snapshot.path)) {
             let held = self.newer_snapshots(snapshot).into_iter().find(|it| it.snapshot().is_some_and(|it| !it.holds.is_empty()));
             return Err(match held.filter(|_| refusal == Refusal::Busy) {
@@ -163,6 +110,30 @@ impl Host {
         let size = snapshot.snapshot().and_then(|it| it.volume_size.clone());
         if let (Some(size), Some(file_system)) = (size, self.tree.edit(&base)) {
             file_system.local.insert("volsize".into(), size);
+        }
+        Ok(())
+    }
+
+    /// Destroys the clones of newer snapshots. Each newer snapshot that depends on itself is told, and that it can't go.
+    fn destroy_newer_clones(&mut self, snapshot: &Dataset) -> Outcome {
+        let clones = self.all_clones();
+        let mut told = Vec::new();
+        for newer in self.newer_snapshots(snapshot) {
+            match Dependents::of(&newer, &self.tree, &clones, Purpose::Destroy).outcome {
+                Err(failure) => told.extend([failure, Failure::Cannot(Action::Destroy(newer.name), Reason::Exists)]),
+                Ok(()) if told.is_empty() => self.destroy_clones(&newer, &clones)?,
+                Ok(()) => {}
+            }
+        }
+        if told.is_empty() { Ok(()) } else { Err(Failure::Several(told)) }
+    }
+
+    /// Destroys those clones of a snapshot that are there still.
+    pub fn destroy_clones(&mut self, snapshot: &Dataset, clones: &Clones) -> Outcome {
+        for clone in clones.get(&snapshot.name).into_iter().flatten() {
+            if self.tree.has(clone) {
+                self.destroy_tree(clone)?;
+            }
         }
         Ok(())
     }

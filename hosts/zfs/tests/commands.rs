@@ -554,6 +554,7 @@ fn a_mountpoint_in_which_the_caller_stands_is_busy() {
     for refused in ["rename tank/a tank/c", "unmount tank/a/b", "unmount tank/a", "destroy -r tank/a", "destroy tank/a/b"] {
         assert_eq!(from_inside(refused), busy, "{refused}");
     }
+    assert_eq!(from_inside("destroy -nr tank/a").status, 0);
     // With -u nothing is mounted elsewhere, so that it stays where it was until it is mounted again.
     assert_eq!(from_inside("rename -u tank/a tank/c").status, 0);
     assert_eq!(value(&world, "mountpoint", "tank/c/b"), format!("{place}/c/b"));

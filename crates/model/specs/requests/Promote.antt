@@ -1,12 +1,13 @@
 -- Promote (zfs-promote(8)).
-use Rattle.std.specs.Prelude.{ℕ, Bool, true, false, not, List, [], ◌∷◌, ◌++◌, Option, Some, is_some, nat_lt}
+use Rattle.std.specs.Prelude.{ℕ, Bool, true, false, not, List, length, [], ◌∷◌, ◌++◌, Option, Some, is_some}
 use Rattle.std.specs.List.{list_any}
 use Rattle.std.specs.Option.{option_map, option_map_or, option_and_then}
 use Rattle.std.specs.FinMap.{insert}
 use Rattle.base.specs.declared.refusal.Refusal.TheVariants.{NoDataset, NotClone, BadName, NameClash}
-use Rattle.base.specs.Names.{name_limit, same_name, whole_length}
+use Rattle.base.specs.Names.{same_name}
 use Rattle.model.specs.declared.reply.Reply.TheVariants.{Done}
 use Rattle.model.specs.World.{World, FileSystem, Snap, SnapId, file_system_at, snap_at}
+use Rattle.model.specs.Lengths.{any_long}
 use Rattle.model.specs.Edits.{with_now}
 use Rattle.model.specs.Rule.{Row, Rule, any_choice}
 use Rattle.model.specs.requests.Change.{limit_row}
@@ -47,7 +48,7 @@ after_promotion w name p = record w { file_systems = insert (insert w.file_syste
 
 -- a snapshot's whole name would be too long under the clone's (zfs-promote(8); the limit is profile)
 abbrev pub has_long_name : List ℕ → Promotion → Bool
-has_long_name name p = list_any (λ t. nat_lt name_limit (whole_length (record { file_system = name; component = t.name }))) (promoted_snaps p)
+has_long_name name p = any_long (length name) (promoted_snaps p)
 
 -- the clone has a snapshot of the name of one that it would get (zfs-promote(8))
 abbrev pub has_clash : Promotion → Bool

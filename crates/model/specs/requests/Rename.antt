@@ -1,12 +1,13 @@
 -- Rename of a file system (zfs-rename(8), without -p and -u).
-use Rattle.std.specs.Prelude.{ℕ, Bool, true, false, not, ◌||◌, ◌&&◌, List, [], ◌∷◌, ◌++◌, length, drop, map, nat_lt, if◌then◌else◌}
+use Rattle.std.specs.Prelude.{ℕ, Bool, true, false, not, ◌||◌, ◌&&◌, List, [], ◌∷◌, ◌++◌, length, drop, map, if◌then◌else◌}
 use Rattle.std.specs.List.{list_any}
 use Rattle.std.specs.FinMap.{contains_key, entries, from_entries, keys}
 use Rattle.base.specs.declared.refusal.Refusal.TheVariants.{NoDataset, BadName, Exists, NoParent, IsRoot}
-use Rattle.base.specs.Names.{name_limit, root_name, same_name, is_descendant, whole_length}
+use Rattle.base.specs.Names.{root_name, same_name, is_descendant}
 use Rattle.model.specs.declared.reply.Reply.TheVariants.{Done}
 use Rattle.model.specs.World.{World, FileSystem}
 use Rattle.model.specs.Hierarchy.{FileSystems, has_parent, is_in_family}
+use Rattle.model.specs.Lengths.{has_long}
 use Rattle.model.specs.Edits.{with_now}
 use Rattle.model.specs.Rule.{Row, Rule, any_choice}
 use Rattle.model.specs.requests.Change.{limit_row}
@@ -23,17 +24,13 @@ renamed_systems m from to = from_entries (map (λ e. (renamed from to e.0, e.1))
 abbrev pub with_renamed : World → List ℕ → List ℕ → World
 with_renamed w from to = record w { file_systems = renamed_systems w.file_systems from to }
 
--- under this name the file system's own name would be too long, or the whole name of a snapshot or a bookmark (zfs(8); the limit is profile)
-abbrev pub is_too_long : List ℕ → FileSystem → Bool
-is_too_long name f =
-    nat_lt name_limit (length name)
-    || (list_any (λ t. nat_lt name_limit (whole_length (record { file_system = name; component = t.name }))) f.snaps
-    || list_any (λ at. nat_lt name_limit (whole_length (record { file_system = name; component = at }))) (keys f.bookmarks))
+-- the rename of `from` to `to` would rename this file system, and one of its names would be too long then (zfs-rename(8))
+abbrev pub is_long_after : List ℕ → List ℕ → List ℕ × FileSystem → Bool
+is_long_after from to e = is_in_family from e.0 && has_long (length (renamed from to e.0)) e.1
 
 -- a name that it would lead to is too long (zfs-rename(8))
 abbrev pub has_long_renamed : World → List ℕ → List ℕ → Bool
-has_long_renamed w from to =
-    list_any (λ e. is_in_family from e.0 && is_too_long (renamed from to e.0) e.1) (entries w.file_systems)
+has_long_renamed w from to = list_any (is_long_after from to) (entries w.file_systems)
 
 -- what refuses it whatever the limits; where there is a file system below the new name, there is one of that name (zfs-rename(8); the root and the
 -- order are profile)

@@ -4,7 +4,7 @@ ghost use Rattle.base.specs.declared.refusal.Refusal.{Refusal};
 ghost use Rattle.std.specs.List.{list_any};
 ghost use Rattle.datasets.specs.Renames.{with_names, rename_refusal};
 ghost use Rattle.datasets.specs.Rows.{entry_in, entry_of};
-ghost use Rattle.snap.specs.Lengths.{is_long_after};
+ghost use Rattle.model.specs.requests.Rename.{is_long_after};
 
 use crate::lengths::has_long;
 use base::name::DsName;

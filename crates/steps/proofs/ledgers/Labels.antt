@@ -21,6 +21,8 @@ use Rattle.limits.specs.declared.line.Line.{Line}
 use Rattle.limits.proofs.Recounted.{IsAlike, AreAlikeBut, alike_from}
 use Rattle.lookups.specs.Accounted.{IsAccounted}
 use Rattle.marks.specs.Requests.{hold_refusal, held_in, bookmarked_in}
+use Rattle.marks.specs.Naming.{snap_naming_refusal, snaps_renamed_in}
+use Rattle.world.proofs.changes.SnapNames.{renames, renames_kept, with_names, named_was, named_here}
 use Rattle.removals.specs.Requests.{with_marks, destroyed, swept}
 use Rattle.removals.proofs.Marked.{in_marks, from_marks, marks_swept}
 use Rattle.steps.specs.Steady.{IsSteady}
@@ -28,6 +30,7 @@ use Rattle.steps.specs.Edits.{datasets_of}
 use Rattle.steps.proofs.requests.Holding.{hold_can}
 use Rattle.steps.proofs.requests.Labelling.{from_changed}
 use Rattle.steps.proofs.requests.Marking.{bookmark_can}
+use Rattle.steps.proofs.requests.Naming.{naming_label, naming_can}
 use Rattle.steps.proofs.requests.Tagging.{tagged_by}
 use Rattle.steps.proofs.ledgers.Kept.{alike_same, accounted_alike}
 
@@ -73,6 +76,26 @@ hold_accounted s tag target steady none = accounted_alike (datasets_of s) (held_
         → AreAlikeBut (datasets_of s) (record (datasets_of s) { file_systems = (option_map_or (λ (p : FileSystem × Snap). with_tags (world_of (datasets_of s)) (id_of p.1) (p.1.tags ++ tag ∷ [])) x (world_of (datasets_of s))).file_systems }) []
     by_place None = alike_same (datasets_of s) []
     by_place (Some p) = tagged_alike (datasets_of s) (id_of p.1) (p.1.tags ++ tag ∷ [])
+
+-- ---- names of snapshots
+
+module _ (s : State) (m : Member) (to : List ℕ) (recursive : Bool) (steady : IsSteady s) (none : snap_naming_refusal (datasets_of s) s.views m to recursive ≡ None) where
+  abbrev named : Datasets
+  named = snaps_renamed_in (datasets_of s) m to recursive
+
+  named_alike : (q : Name) (f : FileSystem) → IsAlike f (with_names m to recursive q f)
+  named_alike q f = record { live = refl; maps = same_maps_mapped (renames m to recursive q) (λ u. (renames_kept m to recursive q u).1) f.snaps; origin = refl; limits = refl }
+
+  pub naming_accounted : (lines : Option (List Line)) → IsAccounted (datasets_of s) lines → IsAccounted (snaps_renamed_in (datasets_of s) m to recursive) lines
+  naming_accounted =
+      accounted_alike (datasets_of s) named steady.good.now.systems (naming_can s m to recursive steady none).steady.good.now.systems
+      (alike_from (datasets_of s) named []
+      (kept_shrunk (world_of (datasets_of s)) (world_of named) (naming_label s m to recursive steady none).kept)
+      (λ q f at. ap is_some (named_here m to recursive (world_of (datasets_of s)) q f at))
+      (λ q g at'.
+      let k = named_was m to recursive (world_of (datasets_of s)) q g at' in
+      let a = subst (λ (x : FileSystem). IsAlike k.0 x) (sym k.2) (named_alike q k.0) in
+      (k.0, k.1, a.limits, λ out. a)))
 
 -- ---- bookmarks
 

@@ -13,7 +13,7 @@ use Rattle.world.specs.Sets.{Has, IsSubset}
 use Rattle.world.specs.Blocks.{block_order as o}
 use Rattle.world.specs.Shapes.{Name, Shape, SnapShape, IsAmong, name_order}
 use Rattle.world.specs.Tables.{Datasets}
-use Rattle.world.specs.Worlds.{FileSystems, snap_shape, shape_of, IsTidy, AreFileSystems, IsPoolState, AreMapsFrom}
+use Rattle.world.specs.Worlds.{FileSystems, snap_shape, shape_of, IsTidy, AreFileSystems, IsPoolState, IsSwept, AreMapsFrom}
 use Rattle.world.proofs.lineage.Bridge.{among, from_among, one_snap, no_block, in_union_of, from_union_of}
 use Rattle.world.proofs.steps.Groups.{same_maps}
 use Rattle.world.proofs.changes.Kept.{reach_is}
@@ -213,16 +213,20 @@ module _ (s : State) (steady : IsSteady s) (ss : FileSystems) (l : IsLabelled s 
   abbrev to : Datasets
   to = record (datasets_of s) { file_systems = ss }
 
-  -- where no snapshot is deferred that wasn't
-  pub label_can : AreKnown s.now.file_systems ss → CanPut s (record (datasets_of s) { file_systems = ss }) 0
-  label_can known = record {
+  -- where nothing is left to sweep
+  pub label_can_swept : IsSwept after → CanPut s (record (datasets_of s) { file_systems = ss }) 0
+  label_can_swept swept = record {
     steady = subst IsSteady (sym (put_none s to)) (record {
       good = l.good;
-      swept = still_swept s after steady refl known l.origins;
+      swept = swept;
       limits = kept_limits s after steady l.good refl (kept_shrunk s.now after.now l.kept);
     });
     reach = reach_is after.now ∙ ap (λ u. union u s.now.freeing) l.union ∙ sym (reach_is s.now);
   }
+
+  -- as where no snapshot is deferred that wasn't
+  pub label_can : AreKnown s.now.file_systems ss → CanPut s (record (datasets_of s) { file_systems = ss }) 0
+  label_can known = label_can_swept (still_swept s after steady refl known l.origins)
 
   -- where there was no limit, there is none
   pub label_unlimited : StaysUnlimited s (record (datasets_of s) { file_systems = ss })

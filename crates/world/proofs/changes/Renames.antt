@@ -34,7 +34,7 @@ pub record CanRename (ss : FileSystems) (from to : Name) : Type 0 where
   pub not_below : is_descendant from to ≡ false
 
 -- a map of a list has no more entries than that
-few_entries : (es : List (Name × FileSystem)) → len (from_entries {R = name_cmp} es) ≤ length es
+pub few_entries : (es : List (Name × FileSystem)) → len (from_entries {R = name_cmp} es) ≤ length es
 few_entries [] = let e = len-empty name_cmp FileSystem in omega (arith, e)
 few_entries (e ∷ es) =
     let rest = few_entries es in

@@ -1,10 +1,10 @@
 -- The state after a step: what holds between two steps holds again, with the sweep.
-use Rattle.std.proofs.Common.{◌≡◌, ◌⊎◌, ℕ, ◌<◌, ◌≤◌, Bool, true, false, not, ◌&&◌, List, [], ◌∷◌, length, Option, Some, None, refl, sym, ap, subst, ◌∙◌, true≢false, inl, ⊎_elim, arith}
+use Rattle.std.proofs.Common.{◌≡◌, ◌⊎◌, ℕ, ◌<◌, ◌≤◌, Bool, true, false, not, ◌&&◌, List, length, Option, Some, None, refl, sym, ap, subst, ◌∙◌, true≢false, ⊎_elim, arith}
 use Rattle.std.specs.Prelude.{IsSome, IsTrue, is_some, nat_lt}
 use Rattle.std.specs.List.{filter, list_any}
 use Rattle.std.specs.Option.{option_map_or}
-use Rattle.std.specs.FinMap.{get, insert, len, entries, values}
-use Rattle.std.proofs.lemmas.Bool.{or_cases, or_left, or_right, ltb-true}
+use Rattle.std.specs.FinMap.{get, insert, len, values}
+use Rattle.std.proofs.lemmas.Bool.{or_cases, or_left, or_right}
 use Rattle.base.specs.Names.{root_name}
 use Rattle.base.specs.Rewrite.{Changes, rewrite}
 use Rattle.base.specs.Surveys.{IsIn}
@@ -26,23 +26,25 @@ use Rattle.world.specs.Dead.{base_of, HasNoCloneIn}
 use Rattle.world.proofs.removals.Rollbacks.{rollback_world, rollback_pairs, rollback_seen}
 use Rattle.world.proofs.changes.Creations.{clone_keeps, clone_pairs}
 use Rattle.model.specs.requests.Rename.{with_renamed}
+use Rattle.model.specs.requests.RenameSnapshot.{with_snaps_renamed}
 use Rattle.world.proofs.changes.Promotions.{promote_world, promote_pairs, promote_there}
 use Rattle.world.proofs.changes.Renames.{CanRename, rename_world, rename_pairs, renamed_there}
+use Rattle.world.proofs.changes.SnapNames.{named_world, named_pairs, named_there}
+use Rattle.world.proofs.views.ViewedSnapNames.{CanRenameSnaps}
 use Rattle.world.proofs.steps.SnapshotLists.{snapshots_keep, snapshots_pair, snapshots_there}
 use Rattle.world.proofs.changes.Plans.{plan_world, plan_pairs}
-use Rattle.world.specs.Shapes.{Name, name_order}
+use Rattle.world.specs.Shapes.{Name}
 use Rattle.model.specs.Hierarchy.{has_parent}
 use Rattle.world.specs.Worlds.{FileSystems, AreFileSystems, IsWorld, ArePaired, IsPoolState, IsSwept}
-use Rattle.world.proofs.lists.Maps.{same_value, no_value, at_entry}
-use Rattle.world.proofs.lineage.Bridge.{live_high, from_entries}
-use Rattle.world.proofs.lists.Finding.{filter_all, from_filter, same_id_is}
-use Rattle.world.proofs.lists.Listed.{in_map}
+use Rattle.world.proofs.lists.Maps.{same_value, no_value}
+use Rattle.world.proofs.lineage.Bridge.{live_high}
+use Rattle.world.proofs.lists.Finding.{filter_all, from_filter}
 use Rattle.world.proofs.removals.Sweep.{sweep-idle}
 use Rattle.world.proofs.changes.Creations.{create_keeps, create_pairs}
 use Rattle.world.proofs.changes.Views.{AreSnapsIn, snap_stays, snaps_in_put}
 use Rattle.world.proofs.removals.WithoutSnaps.{from_without, without_at}
 use Rattle.world.proofs.removals.Slices.{slice_world, slice_pairs}
-use Rattle.world.proofs.steps.States.{in_clones, positive}
+use Rattle.world.proofs.steps.States.{in_clones, some_in, from_clones, positive}
 
 -- ---- the sweep
 
@@ -59,20 +61,6 @@ no_goer false n h = refl
 -- with nothing to sweep the state stays
 pub swept_idle : (s : State) → IsSwept s → state_after_sweep s ≡ s
 swept_idle s swept = sweep-idle s (λ q y at. filter_all (λ (t : Snap). not (t.deferred && not (is_needed s.now s.views t))) y.snaps (λ t h. no_goer t.deferred (is_needed s.now s.views t) (swept q y t at h)))
-
-some_in : {A : Type 0} (xs : List A) → nat_lt 0 (length xs) ≡ true → (x : A) × IsIn xs x
-some_in [] h = let l = ltb-true 0 0 h in absurd (omega arith)
-some_in (x ∷ xs) h = (x, inl refl)
-
-from_clones : (w : World) (id : SnapId) (q : Name) → IsIn (clones_of w id) q → (x : FileSystem) × (get w.file_systems q ≡ Some x) × (x.origin ≡ Some id)
-from_clones w id q h =
-    let e = in_map (λ (e : Name × FileSystem). e.0) (filter (λ (e : Name × FileSystem). option_map_or (same_id id) e.1.origin false) (entries w.file_systems)) q h in
-    let k = from_filter (λ (e : Name × FileSystem). option_map_or (same_id id) e.1.origin false) (entries w.file_systems) e.0 e.1 in
-    (e.0.1, ap (get w.file_systems) e.2 ∙ at_entry name_order w.file_systems e.0.0 e.0.1 (from_entries (entries w.file_systems) e.0 k.0), by_origin e.0.1.origin k.1)
-  where
-    by_origin : (o : Option SnapId) → option_map_or (same_id id) o false ≡ true → o ≡ Some id
-    by_origin None h = absurd (true≢false (sym h))
-    by_origin (Some i) h = ap Some (sym (same_id_is id i h))
 
 module _ (s : State) where
   abbrev goes : Snap → Bool
@@ -180,6 +168,13 @@ pub rename_before : (s : State) → IsPoolState s → (from to : Name) → CanRe
 rename_before s good from to can = now_keeps s good (with_renamed s.now from to)
     (rename_world s.now good.now.systems from to can s.size good.now) (rename_pairs s.now good.now.systems from to can s.size good.now s.last good.pair)
     (renamed_there s.now.file_systems from to can)
+
+-- ---- snapshots under another name
+
+pub rename_snapshots_before : (s : State) → IsPoolState s → (m : Member) (to : List ℕ) (recursive : Bool) → CanRenameSnaps s.now s.views m to recursive → IsPoolState (with_now s (with_snaps_renamed s.now m to recursive))
+rename_snapshots_before s good m to recursive can = now_keeps s good (with_snaps_renamed s.now m to recursive)
+    (named_world m to recursive s.now can.free s.size good.now) (named_pairs m to recursive s.now can.free s.size good.now s.last good.pair)
+    (named_there m to recursive s.now)
 
 -- ---- snapshots destroyed, of which none has a clone or a view
 

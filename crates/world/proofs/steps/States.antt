@@ -5,7 +5,7 @@ use Rattle.std.specs.List.{filter, list_any}
 use Rattle.std.specs.Option.{option_map_or}
 use Rattle.std.specs.FinMap.{get, entries, values}
 use Rattle.std.specs.FinSet.{difference}
-use Rattle.std.proofs.lemmas.Bool.{false_from_ne_true, or_left, or_right, lt-ltb, and_parts}
+use Rattle.std.proofs.lemmas.Bool.{false_from_ne_true, or_left, or_right, lt-ltb, ltb-true, and_parts}
 use Rattle.base.specs.Map.{Block}
 use Rattle.base.specs.Surveys.{IsIn}
 use Rattle.model.specs.World.{World, FileSystem, Snap, SnapId, id_of, same_id, snap_at, map_of, clones_of, union_of, reach_of}
@@ -21,11 +21,11 @@ use Rattle.world.specs.Worlds.{IsWorld, AreCellsOne, ArePaired, IsPoolState, InN
 use Rattle.world.specs.Reach.{AreNumbersUnique}
 use Rattle.world.specs.Dead.{HasNoCloneIn}
 use Rattle.world.proofs.lists.SetCounts.{in_union_left, in_union_right, from_difference}
-use Rattle.world.proofs.lists.Maps.{entry_of}
+use Rattle.world.proofs.lists.Maps.{entry_of, at_entry}
 use Rattle.world.proofs.maps.Cells.{from_number}
-use Rattle.world.proofs.lineage.Bridge.{from_snap_at, snap_is_at}
-use Rattle.world.proofs.lists.Finding.{in_filter, is_same_id}
-use Rattle.world.proofs.lists.Listed.{map_in}
+use Rattle.world.proofs.lineage.Bridge.{from_snap_at, snap_is_at, from_entries}
+use Rattle.world.proofs.lists.Finding.{in_filter, from_filter, is_same_id, same_id_is}
+use Rattle.world.proofs.lists.Listed.{in_map, map_in}
 use Rattle.world.proofs.changes.Kept.{reach_is}
 use Rattle.world.proofs.removals.WithoutSnaps.{without_at, without_good, without_world, without_pairs}
 
@@ -86,6 +86,22 @@ in_clones w id q x at e =
     (in_filter (λ (e : Name × FileSystem). option_map_or (same_id id) e.1.origin false) (entries w.file_systems) (q, x)
     (in_entries (entries w.file_systems) q x (entry_of name_order w.file_systems q x at))
     (ap (λ y. option_map_or (same_id id) y false) e ∙ is_same_id id id refl))
+
+-- and a clone is a file system whose origin it is
+pub from_clones : (w : World) (id : SnapId) (q : Name) → IsIn (clones_of w id) q → (x : FileSystem) × (get w.file_systems q ≡ Some x) × (x.origin ≡ Some id)
+from_clones w id q h =
+    let e = in_map (λ (e : Name × FileSystem). e.0) (filter (λ (e : Name × FileSystem). option_map_or (same_id id) e.1.origin false) (entries w.file_systems)) q h in
+    let k = from_filter (λ (e : Name × FileSystem). option_map_or (same_id id) e.1.origin false) (entries w.file_systems) e.0 e.1 in
+    (e.0.1, ap (get w.file_systems) e.2 ∙ at_entry name_order w.file_systems e.0.0 e.0.1 (from_entries (entries w.file_systems) e.0 k.0), by_origin e.0.1.origin k.1)
+  where
+    by_origin : (o : Option SnapId) → option_map_or (same_id id) o false ≡ true → o ≡ Some id
+    by_origin None h = absurd (true≢false (sym h))
+    by_origin (Some i) h = ap Some (sym (same_id_is id i h))
+
+-- a list that isn't empty has an element
+pub some_in : {A : Type 0} (xs : List A) → nat_lt 0 (length xs) ≡ true → (x : A) × IsIn xs x
+some_in [] h = let l = ltb-true 0 0 h in absurd (omega arith)
+some_in (x ∷ xs) h = (x, inl refl)
 
 module _ (s : State) where
   abbrev goes : Snap → Bool

@@ -16,7 +16,7 @@ use Rattle.model.specs.declared.limits.Limit.{Limit}
 use Rattle.model.specs.declared.receiving.Receiving.{Receiving}
 use Rattle.model.specs.declared.request.Request.{Request}
 use Rattle.model.specs.requests.Set.{after_set}
-use Rattle.model.specs.declared.request.Request.TheVariants.{Create as ToCreate, Write as ToWrite, Punch as ToPunch, FreeObject as ToFreeObject, Snapshot as ToSnapshot, Read as ToRead, Get as ToGet, PoolGet as ToPoolGet, List as ToList, Rollback as ToRollback, Destroy as ToDestroy, Slice as ToSlice, Sync as ToSync, Abandon as ToAbandon, OpenView as ToOpenView, CloseView as ToCloseView, Clone as ToClone, Promote as ToPromote, Rename as ToRename, Hold as ToHold, Release as ToRelease, Holds as ToHolds, Bookmark as ToBookmark, WrittenSince as ToWrittenSince, WouldFree as ToWouldFree, Set as ToSet, Send as ToSend, Receive as ToReceive}
+use Rattle.model.specs.declared.request.Request.TheVariants.{Create as ToCreate, Write as ToWrite, Punch as ToPunch, FreeObject as ToFreeObject, Snapshot as ToSnapshot, Read as ToRead, Get as ToGet, PoolGet as ToPoolGet, List as ToList, Rollback as ToRollback, Destroy as ToDestroy, Slice as ToSlice, Sync as ToSync, Abandon as ToAbandon, OpenView as ToOpenView, CloseView as ToCloseView, Clone as ToClone, Promote as ToPromote, Rename as ToRename, RenameSnapshot as ToRenameSnapshot, Hold as ToHold, Release as ToRelease, Holds as ToHolds, Bookmark as ToBookmark, WrittenSince as ToWrittenSince, WouldFree as ToWouldFree, Set as ToSet, Send as ToSend, Receive as ToReceive}
 use Rattle.model.specs.declared.reply.Reply.{Reply}
 use Rattle.model.specs.State.{State}
 use Rattle.model.specs.Rule.{Choice, Rule}
@@ -43,8 +43,10 @@ use Rattle.world.proofs.views.ViewedTakes.{taken_safe}
 use Rattle.world.proofs.views.ViewedRequests.{row_false, none_viewed, create_asked, clone_asked, rollback_asked, destroy_asked}
 use Rattle.world.proofs.views.ViewedReceives.{receive_asked}
 use Rattle.model.specs.requests.Rename.{with_renamed}
+use Rattle.model.specs.requests.RenameSnapshot.{with_snaps_renamed}
 use Rattle.world.proofs.views.ViewedClones.{promoted_safe}
 use Rattle.world.proofs.views.ViewedRenames.{rename_asked}
+use Rattle.world.proofs.views.ViewedSnapNames.{named_safe, can_by_rule}
 use Rattle.world.proofs.views.ViewedSteps.{IsKeeping, identities, keeping_swept, worlds_change, views_stay, state_stays, view_opened, view_closed}
 
 -- a change of a live map
@@ -170,6 +172,9 @@ step_keeps q r s new v step = followed q r s new (rule_of q step.reading) v (by_
     by_request (ToPromote name) c none is = turned r s name v
     by_request (ToRename name to) c none is =
         views_stay (ToRename name to) r s (with_renamed s.now name to) s.next_guid v (rename_asked s name to v.now.once v.now.closed none)
+    by_request (ToRenameSnapshot name to recursive) c none is =
+        views_stay (ToRenameSnapshot name to recursive) r s (with_snaps_renamed s.now name to recursive) s.next_guid v
+        (named_safe s.now name to recursive v.now.once v.now.closed s.views (can_by_rule s name to recursive none))
     by_request (ToCloseView view) c none is = subst (λ x. IsKeeping (ToCloseView view) x s (record s { views = remove s.views view })) (sym is) (view_closed s view v)
     by_request (ToHold tag target) c none is = tagged (ToHold tag target) r s target (λ t. t.tags ++ tag ∷ []) v
     by_request (ToRelease tag target) c none is = tagged (ToRelease tag target) r s target (λ t. without_tag t.tags tag) v

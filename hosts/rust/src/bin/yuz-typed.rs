@@ -171,6 +171,81 @@ fn rename_within_limits() -> Outcome {
     expect(&mut pool, "get available p/q", "0")
 }
 
+/// The pool of `with_a_family`, and also p/a/x/y with p/a/x/y@s, and p/c@s: p/a/x has no snapshot of that name.
+fn with_a_gap() -> Result<Pool, Box<dyn StdError>> {
+    let mut pool = with_a_family()?;
+    pool.create_file_system("p/a/x/y")?;
+    pool.write("p/a/x/y", 0, 0, &[100; 512])?;
+    pool.snapshot("p/a/x/y@s", false)?;
+    pool.snapshot("p/c@s", false)?;
+    Ok(pool)
+}
+
+/// A rename of a snapshot changes its name alone, and with `recursive` the names of those below.
+fn rename_snapshots() -> Outcome {
+    let mut pool = with_a_gap()?;
+    pool.hold("kept", "p/a@s")?;
+    let sent = stream(&mut pool, "p/a@t", Some("p/a@s"))?;
+    let before = pool.entries()?;
+    pool.rename_snapshot("p/a@s", "u", false)?;
+    expect(&mut pool, "list", "p p/a p/a@u p/a@t p/a#m p/a/x p/a/x@u p/a/x/y p/a/x/y@s p/c p/c@s")?;
+    expect(&mut pool, "get origin p/c", "p/a@u")?;
+    expect(&mut pool, "get clones p/a@u", "p/c")?;
+    assert_eq!(pool.holds("p/a@u")?, ["kept"]);
+    assert_eq!(pool.holds("p/a@s"), Err(Error::NoDataset));
+    assert_eq!(pool.read("p/a@u", 0, 0)?, Some([97; 512]));
+    assert_eq!(stream(&mut pool, "p/a@t", Some("p/a@u"))?, sent);
+    pool.rename_snapshot("p/a@u", "s", false)?;
+    assert_eq!(pool.entries()?, before);
+    let view = pool.open_view("p/a/x@u")?;
+    pool.rename_snapshot("p/a@s", "v", true)?;
+    expect(&mut pool, "list", "p p/a p/a@v p/a@t p/a#m p/a/x p/a/x@u p/a/x/y p/a/x/y@v p/c p/c@s")?;
+    expect(&mut pool, "get origin p/c", "p/a@v")?;
+    assert_eq!(pool.holds("p/a@v")?, ["kept"]);
+    for (name, byte) in [("p/a@v", 97), ("p/a@t", 98), ("p/a/x@u", 99), ("p/a/x/y@v", 100), ("p/c@s", 97)] {
+        assert_eq!(pool.read(name, 0, 0)?, Some([byte; 512]), "{name}");
+    }
+    pool.close_view(view)?;
+    pool.rename_snapshot("p/a@v", "s", true)?;
+    assert_eq!(pool.entries()?, before);
+    Ok(())
+}
+
+/// What refuses a rename of a snapshot, which has changed nothing then.
+fn rename_of_a_snapshot_is_refused() -> Outcome {
+    let mut pool = with_a_gap()?;
+    pool.snapshot("p/a/x/y@w", false)?;
+    let view = pool.open_view("p/a/x/y@s")?;
+    let before = pool.entries()?;
+    let [long, long_below] = ["p/a@", "p/a/x/y@"].map(|above| "l".repeat(255 - above.len()));
+    let [longer, longer_below] = [&long, &long_below].map(|name| format!("{name}l"));
+    for (name, to, recursive, error) in [
+        ("p/a@none", "v", false, Error::NoDataset),
+        ("p/none@s", "v", false, Error::NoDataset),
+        ("p/a/x@s", "v", true, Error::NoDataset),
+        ("p/a@s", &longer, false, Error::BadName),
+        ("p/a@s", &longer_below, true, Error::BadName),
+        ("p/a@s", "t", false, Error::Exists),
+        ("p/a@s", "s", false, Error::Exists),
+        ("p/a@s", "w", true, Error::Exists),
+        ("p/a/x/y@s", "v", false, Error::Busy),
+        ("p/a@s", "v", true, Error::Busy),
+        ("p/a", "v", false, Error::BadName),
+        ("p/a#m", "v", false, Error::BadName),
+        ("p/a@s", "p/a@v", false, Error::BadName),
+        ("p/a@s", "", false, Error::BadName),
+        ("", "v", false, Error::BadName),
+    ] {
+        assert_eq!(pool.rename_snapshot(name, to, recursive), Err(error), "{name} {to}");
+    }
+    assert_eq!(pool.entries()?, before);
+    pool.close_view(view)?;
+    pool.rename_snapshot("p/a@s", &long_below, true)?;
+    pool.rename_snapshot("p/a@t", &long, false)?;
+    assert_eq!(pool.read(&format!("p/a/x/y@{long_below}"), 0, 0)?, Some([100; 512]));
+    Ok(())
+}
+
 fn main() -> Outcome {
     let mut pool = Pool::create(1, 1000)?;
     pool.create_file_system("p/a")?;
@@ -219,6 +294,8 @@ fn main() -> Outcome {
     rename_a_family()?;
     rename_is_refused()?;
     rename_within_limits()?;
+    rename_snapshots()?;
+    rename_of_a_snapshot_is_refused()?;
     println!("typed: each call tells what its line tells");
     Ok(())
 }

@@ -32,9 +32,6 @@ pub struct PlannedStep {
     pub to: String,
     pub from: Option<String>,
     pub head: Step,
-    /// The names of both in the layer.
-    to_path: String,
-    from_path: Option<String>,
 }
 
 #[derive(Clone, Debug)]
@@ -51,13 +48,22 @@ impl PlannedStep {
     /// The bytes of the layer's stream that are still to be sent.
     pub fn body(&self, host: &mut Host) -> Outcome<Vec<u8>> {
         let at = self.head.resumes_at.unwrap_or(0);
-        host.layer.stream(&self.to_path, self.from_path.as_deref(), at).map_err(|refusal| self.not_sent(refusal))
+        let (to, from) = self.paths(host)?;
+        host.layer.stream(&to, from.as_deref(), at).map_err(|refusal| self.not_sent(refusal))
     }
 
     /// How many they are.
     pub fn size(&self, host: &mut Host) -> Outcome<u64> {
-        let size = host.layer.stream_size(&self.to_path, self.from_path.as_deref()).map_err(|refusal| self.not_sent(refusal))?;
+        let (to, from) = self.paths(host)?;
+        let size = host.layer.stream_size(&to, from.as_deref()).map_err(|refusal| self.not_sent(refusal))?;
         Ok(size.saturating_sub(self.head.resumes_at.unwrap_or(0)))
+    }
+
+    /// The names of both in the layer. Either may have been renamed since this was planned.
+    fn paths(&self, host: &Host) -> Outcome<(String, Option<String>)> {
+        let path = |name: &str, guid| host.same(name, guid).map(|it| it.path).ok_or_else(|| self.not_sent(Refusal::NoDataset));
+        let from = self.from.as_ref().map(|from| path(from, self.head.from_guid)).transpose()?;
+        Ok((path(&self.to, self.head.to_guid)?, from))
     }
 
     fn not_sent(&self, refusal: Refusal) -> Failure {
@@ -166,13 +172,7 @@ impl Host {
             holds: holds.unwrap_or_default(),
             resumes_at: None,
         };
-        PlannedStep {
-            to: to.name.clone(),
-            from: from.map(|from| from.name.clone()),
-            head,
-            to_path: to.path.clone(),
-            from_path: from.map(|from| from.path.clone()),
-        }
+        PlannedStep { to: to.name.clone(), from: from.map(|from| from.name.clone()), head }
     }
 
     /// Plans `-R` or `-I`.
@@ -285,15 +285,10 @@ impl Host {
     pub fn plan_token(&mut self, token: &Token) -> Outcome<Plan> {
         let cannot = |text: String| Failure::Cannot(Action::ResumeSend, Reason::Text(text));
         let Token { to_name, to_guid, from_guid, at } = token;
-        let to = match self.tree.find(to_name).filter(|it| it.guid() == *to_guid) {
+        let to = match self.same(to_name, *to_guid) {
             Some(to) => to,
-            None => match self.by_guid(name::base(to_name), *to_guid) {
-                Some(to) => to,
-                None if self.tree.has(to_name) => {
-                    return Err(cannot(format!("'{to_name}' is no longer the same snapshot used in the initial send")));
-                }
-                None => return Err(cannot(format!("'{to_name}' used in the initial send no longer exists"))),
-            },
+            None if self.tree.has(to_name) => return Err(cannot(format!("'{to_name}' is no longer the same snapshot used in the initial send"))),
+            None => return Err(cannot(format!("'{to_name}' used in the initial send no longer exists"))),
         };
         let from = match from_guid {
             0 => None,
@@ -306,6 +301,11 @@ impl Host {
         step.head.resumes_at = Some(*at);
         let begin = Begin { to_name: to_name.clone(), ..Begin::default() };
         Ok(Plan { begin, is_package: false, steps: vec![step], warnings: Vec::new() })
+    }
+
+    /// What has this name and guid, or else the snapshot of this guid.
+    fn same(&self, name: &str, guid: u64) -> Option<Dataset> {
+        self.tree.find(name).filter(|it| it.guid() == guid).or_else(|| self.by_guid(name::base(name), guid))
     }
 
     /// The snapshot of a guid: of this file system, or else of any.
@@ -372,6 +372,26 @@ mod tests {
         let text = host.plan(&wanted).unwrap_err().to_string();
         assert_eq!(text, "warning: cannot send 'tank/a@1': not an earlier snapshot from the same fs\n");
         assert!(host.plan(&Wanted { with_between: true, ..wanted }).is_err());
+    }
+
+    #[test]
+    fn a_plan_is_of_the_same_snapshots_after_renames() {
+        let mut host = prepared();
+        for (block, name) in ["tank/a@4", "tank/a@5"].iter().enumerate() {
+            let path = host.open("tank/a").unwrap().path;
+            host.layer.write(&path, 0, block as u32, &[1]).unwrap();
+            snapshot(&mut host, name);
+        }
+        let wanted = Wanted { name: "tank/a@4".into(), from: Some("tank/a@3".into()), ..Wanted::default() };
+        let step = host.plan(&wanted).unwrap().steps.remove(0);
+        let (size, body) = (step.size(&mut host).unwrap(), step.body(&mut host).unwrap());
+        for (old, new) in [("3", "third"), ("4", "fourth"), ("5", "4"), ("2", "3")] {
+            host.change(|host| host.rename_snapshot(&format!("tank/a@{old}"), new, false).map_err(|_| Failure::Silent)).unwrap();
+        }
+        assert_eq!((step.size(&mut host), step.body(&mut host)), (Ok(size), Ok(body)));
+        let fourth = host.open("tank/a@fourth").unwrap();
+        host.change(|host| host.destroy_snapshots(&[fourth], false)).unwrap();
+        assert!(step.body(&mut host).unwrap_err().to_string().contains("the snapshot was destroyed meanwhile"));
     }
 
     #[test]

@@ -89,7 +89,7 @@ pub fn destination(manner: &Manner, begin: &Begin, sent: &str) -> Outcome<String
         Naming::Below => String::new(),
     };
     let whole = manner.target.clone() + &rest;
-    let is_valid = name::check(&whole, Kinds::SNAPSHOT, false).is_ok();
+    let is_valid = name::check(&whole, Kinds::SNAPSHOT, false).is_ok() && !name::is_too_long(&whole);
     if is_valid { Ok(whole) } else { Err(receive("invalid name")) }
 }
 
@@ -162,13 +162,12 @@ impl Host {
         if manner.naming == Naming::AllButPool {
             self.make_parents(base, manner.clock).trying(action)?;
         }
-        let component = self.tree.next_component();
         if step.is_clone {
-            self.receive_clone(manner, arrived, base, &component, bytes)?;
+            self.receive_clone(manner, arrived, base, bytes)?;
         } else if self.tree.has(base) {
-            self.replace(arrived, base, &component, bytes)?;
+            self.replace(arrived, base, bytes)?;
         } else {
-            let to = format!("{}@{component}", name::in_layer(base));
+            let to = name::in_layer(&arrived.destination);
             self.layer.receive(&to, Receiving::Plain, bytes).map_err(|refusal| not_received(arrived, base, refusal))?;
             let file_system = self.new_file_system(step.kind, manner.clock);
             self.tree.insert(base.to_owned(), file_system);
@@ -177,13 +176,13 @@ impl Host {
             file_system.partial = None;
             file_system.kind = step.kind;
         }
-        self.add_received(arrived, base, component).trying(action)?;
+        self.add_received(arrived).trying(action)?;
         Ok(is_new)
     }
 
     /// Receives a stream in full over a file system that is there: its contents and bookmarks go, and what is below it stays.
-    fn replace(&mut self, arrived: &Arrived, base: &str, component: &str, bytes: &[u8]) -> Outcome {
-        let to = format!("{}@{component}", name::in_layer(base));
+    fn replace(&mut self, arrived: &Arrived, base: &str, bytes: &[u8]) -> Outcome {
+        let to = name::in_layer(&arrived.destination);
         let received = self.receive_over_refquota(base, |layer| layer.receive(&to, Receiving::Replace, bytes));
         received.map_err(|refusal| not_received(arrived, base, refusal))?;
         self.follow_layer();
@@ -196,20 +195,18 @@ impl Host {
     }
 
     /// Receives a stream whose source has the contents that the file system has now.
-    fn receive_onto_now(&mut self, arrived: &Arrived, base: &str, component: &str, bytes: &[u8]) -> Outcome {
+    fn receive_onto_now(&mut self, arrived: &Arrived, base: &str, bytes: &[u8]) -> Outcome {
         let action = || arrived.step.action();
-        let path = name::in_layer(base);
-        let now = format!("{path}@{}", self.tree.next_component());
-        self.layer.order(&format!("snapshot {now}")).trying(action)?;
+        let now = self.make_own_snapshot(&name::in_layer(base)).trying(action)?;
         let guid = self.layer.get(&now, yuzgont::Property::Guid).trying(action)?;
         let bytes = with_source(bytes, guid).map_err(|refusal| not_received(arrived, base, refusal))?;
-        let to = format!("{path}@{component}");
+        let to = name::in_layer(&arrived.destination);
         self.layer.receive(&to, Receiving::Plain, &bytes).map_err(|refusal| not_received(arrived, base, refusal))?;
         self.layer.order(&format!("destroy {now}")).trying(action)
     }
 
     /// Receives as a clone of the origin, which is here by its guid or was named. A stream in full starts from an emptied clone.
-    fn receive_clone(&mut self, manner: &Manner, arrived: &Arrived, base: &str, component: &str, bytes: &[u8]) -> Outcome {
+    fn receive_clone(&mut self, manner: &Manner, arrived: &Arrived, base: &str, bytes: &[u8]) -> Outcome {
         let step = &arrived.step;
         let origin = self.origin_of(manner, &arrived.destination, step)?;
         if step.from_guid != 0 && step.from_guid != origin.guid() {
@@ -223,18 +220,17 @@ impl Host {
         if step.from_guid == 0 {
             self.make_clone(&origin.name, base, manner.clock).trying(|| step.action())?;
             self.empty(base).trying(|| step.action())?;
-            return self.receive_onto_now(arrived, base, component, bytes);
+            return self.receive_onto_now(arrived, base, bytes);
         }
-        self.clone_by(&origin.name, base, manner.clock, |layer, origin, path| {
-            let to = format!("{path}@{component}");
+        let to = name::in_layer(&arrived.destination);
+        self.clone_by(&origin.name, base, manner.clock, |layer, origin| {
             layer.receive(&to, Receiving::Origin(origin), bytes).map_err(|refusal| reason_of(base, refusal))
         })
         .trying(|| step.action())
     }
 
-    fn add_received(&mut self, arrived: &Arrived, base: &str, component: String) -> Result<(), Refusal> {
-        let name = name::snapshot(&arrived.destination).unwrap_or_default();
-        self.add_snapshot(base, name, component, arrived.step.creation, Default::default())
+    fn add_received(&mut self, arrived: &Arrived) -> Result<(), Refusal> {
+        self.add_snapshot(&arrived.destination, arrived.step.creation, Values::new())
     }
 
     /// Receives an increment onto a file system. Snapshots newer than its source go by force, unless one is held or has a clone, or are such that
@@ -243,15 +239,14 @@ impl Host {
         let step = &arrived.step;
         let snapshots = self.tree.snapshots(base);
         let wrong = |refusal| match refusal {
-            Refusal::HasClones => exists(&arrived.destination),
+            Refusal::HasClones | Refusal::Exists => exists(&arrived.destination),
             other => not_received(arrived, base, other),
         };
         let source = snapshots.iter().find(|it| it.guid() == step.from_guid).ok_or_else(|| wrong(Refusal::WrongSource))?;
         let newest = snapshots.last().filter(|newest| newest.name != source.name && !manner.is_forced);
         let respelled = newest.map(|newest| with_source(bytes, newest.guid())).transpose().map_err(wrong)?;
-        let component = self.tree.next_component();
         let mode = if manner.is_forced { Receiving::Past } else { Receiving::Plain };
-        let (to, bytes) = (format!("{}@{component}", name::in_layer(base)), respelled.as_deref().unwrap_or(bytes));
+        let (to, bytes) = (name::in_layer(&arrived.destination), respelled.as_deref().unwrap_or(bytes));
         self.receive_over_refquota(base, |layer| layer.receive(&to, mode, bytes)).map_err(wrong)?;
         if manner.is_forced {
             self.follow_layer();
@@ -259,7 +254,7 @@ impl Host {
         if let Some(file_system) = self.tree.edit(base) {
             file_system.partial = None;
         }
-        self.add_received(arrived, base, component).trying(|| step.action())
+        self.add_received(arrived).trying(|| step.action())
     }
 
     /// Takes up what came beside the blocks: properties, volume sizes, holds; and what the command says of properties.
@@ -405,7 +400,7 @@ impl Host {
                 continue;
             }
             match sent.get(&base) {
-                Some(snapshots) => self.follow_snapshots(manner, &base, snapshots)?,
+                Some(snapshots) => self.follow_snapshots(manner, &base, snapshots),
                 None if manner.is_forced => self.destroy_tree(&base)?,
                 None => {}
             }
@@ -413,28 +408,36 @@ impl Host {
         Ok(())
     }
 
-    fn follow_snapshots(&mut self, manner: &Manner, base: &str, sent: &HashMap<u64, &Listed>) -> Outcome {
-        let mut gone = false;
-        for snapshot in self.tree.snapshots(base) {
-            match sent.get(&snapshot.guid()) {
-                Some(listed) => {
-                    let is_free = self.tree.get(base).is_some_and(|it| it.snapshot(&listed.name).is_none());
-                    if let Some(it) = self.tree.edit_snapshot(&snapshot.name) {
-                        it.received.clone_from(&listed.properties);
-                        if is_free {
-                            it.name.clone_from(&listed.name);
-                        }
-                    }
-                }
-                // One that is held or has clones stays, as it does in ZFS.
-                None if manner.is_forced => gone |= self.layer.order(&format!("destroy {}", snapshot.path)).is_ok(),
-                None => {}
-            }
+    fn follow_snapshots(&mut self, manner: &Manner, base: &str, sent: &HashMap<u64, &Listed>) {
+        if manner.is_forced {
+            self.destroy_unsent(base, sent);
         }
-        if gone {
+        for snapshot in self.tree.snapshots(base) {
+            let Some(listed) = sent.get(&snapshot.guid()) else { continue };
+            if let Some(it) = self.tree.edit_snapshot(&snapshot.name) {
+                it.received.clone_from(&listed.properties);
+            }
+            self.follow_name(base, &snapshot.name, &listed.name);
+        }
+    }
+
+    /// Destroys the snapshots that the sender hasn't. One that is held or has clones stays, as it does in ZFS.
+    fn destroy_unsent(&mut self, base: &str, sent: &HashMap<u64, &Listed>) {
+        let mut is_gone = false;
+        for snapshot in self.tree.snapshots(base).iter().filter(|it| !sent.contains_key(&it.guid())) {
+            is_gone |= self.layer.order(&format!("destroy {}", snapshot.path)).is_ok();
+        }
+        if is_gone {
             self.follow_layer();
         }
-        Ok(())
+    }
+
+    /// Gives a snapshot the name that the sender has for it, unless that is taken or too long here.
+    fn follow_name(&mut self, base: &str, name: &str, sent: &str) {
+        let new = format!("{base}@{sent}");
+        if new != name && !name::is_too_long(&new) {
+            let _ = self.rename_snapshot(name, sent, false);
+        }
     }
 }
 
@@ -659,5 +662,25 @@ mod tests {
         receive(&mut host, &manner, &rest(half)).unwrap();
         assert!(host.tree.has("tank/b@1") && host.open("tank/b").unwrap().base.partial.is_none());
         assert!(host.change(|host| host.forget_partial("tank/b")).is_err());
+    }
+
+    #[test]
+    fn a_resumed_receive_takes_no_name_that_is_there() {
+        let mut host = prepared();
+        let manner = Manner { target: "tank/b".into(), is_resumable: true, ..Manner::default() };
+        let full = arrived(&mut host, "tank/a@1", None, "tank/b@1");
+        receive(&mut host, &manner, &full).unwrap();
+        let increment = arrived(&mut host, "tank/a@2", Some("tank/a@1"), "tank/b@2");
+        let half = increment.bytes.len() / 2;
+        host.change(|host| host.keep_partial(&manner, "tank/b@2", &increment.step, increment.bytes[..half].to_vec())).unwrap();
+        snapshot(&mut host, "tank/b@2");
+        let step = Step { resumes_at: Some(half as u64), ..increment.step.clone() };
+        let rest = Arrived { step, bytes: Rc::new(increment.bytes[half..].to_vec()), ..increment.clone() };
+        let before = format!("{:?}", host.tree);
+        assert_eq!(receive(&mut host, &manner, &rest).unwrap_err(), "cannot restore to tank/b@2: destination already exists\n");
+        assert_eq!(format!("{:?}", host.tree), before);
+        host.change(|host| host.rename_snapshot("tank/b@2", "own", false).map_err(|_| Failure::Silent)).unwrap();
+        receive(&mut host, &manner, &rest).unwrap();
+        assert_eq!(host.tree.snapshots("tank/b").iter().map(|it| it.name.clone()).collect::<Vec<_>>(), ["tank/b@1", "tank/b@own", "tank/b@2"]);
     }
 }

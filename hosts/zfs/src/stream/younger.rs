@@ -74,7 +74,7 @@ mod tests {
     fn what_is_no_stream_has_no_blocks() {
         let mut host = host();
         snapshot(&mut host, "tank@s");
-        let stream = host.layer.stream("p@1", None, 0).unwrap();
+        let stream = host.layer.stream("p@s", None, 0).unwrap();
         assert_eq!(younger_blocks(&stream), Some(6));
         for length in 0..stream.len() - 32 {
             assert_eq!(younger_blocks(&stream[..length]), None, "{length}");

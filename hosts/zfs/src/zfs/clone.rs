@@ -6,7 +6,7 @@ use crate::call::Call;
 use crate::dataset::Kind;
 use crate::failure::{Action, Failure, Outcome, Reason, Trying};
 use crate::host::Host;
-use crate::layer::Layer;
+use crate::layer::{Layer, Refusal};
 use crate::name;
 use crate::property::Kinds;
 use crate::setting::{check, settings, Setting};
@@ -63,21 +63,22 @@ fn make(host: &mut Host, source: &str, target: &str, clock: i64, settings: &[Set
 impl Host {
     /// Makes a clone of a snapshot.
     pub fn make_clone(&mut self, source: &str, target: &str, clock: i64) -> Result<(), Reason> {
-        self.clone_by(source, target, clock, |layer, origin, path| Ok(layer.order(&format!("clone {origin} {path}"))?))
+        let path = name::in_layer(target);
+        self.clone_by(source, target, clock, |layer, origin| Ok(layer.order(&format!("clone {origin} {path}"))?))
     }
 
-    /// Makes a clone by what the layer is asked to do of the origin's name and the new one there.
+    /// Makes a clone by what the layer is asked to do of the origin's name there.
     pub fn clone_by(
         &mut self,
         source: &str,
         target: &str,
         clock: i64,
-        make: impl FnOnce(&mut Layer, &str, &str) -> Result<(), Reason>,
+        make: impl FnOnce(&mut Layer, &str) -> Result<(), Reason>,
     ) -> Result<(), Reason> {
         let snapshot = self.tree.find(source).ok_or(Reason::NoDataset)?;
         let above = name::parent(target).ok_or_else(|| Reason::Text("missing dataset name".into()))?;
         self.check_place(target, above)?;
-        make(&mut self.layer, &snapshot.path, &name::in_layer(target))?;
+        make(&mut self.layer, &snapshot.path)?;
         let mut clone = self.new_file_system(snapshot.base.kind, clock);
         for property in COPIED {
             clone.local.extend(snapshot.base.local.get(property).map(|value| (property.to_owned(), value.clone())));
@@ -94,17 +95,18 @@ impl Host {
     pub fn promote(&mut self, name: &str) -> Result<(), Reason> {
         let whole = self.tree.whole(name).ok_or(Reason::NoDataset)?;
         let origin = self.origin(name).ok_or(Reason::NotClone)?;
-        let given = self.tree.snapshots(name::base(&origin));
+        let base = name::base(&origin);
+        let given = self.tree.snapshots(base);
         let count = given.iter().position(|it| it.name == origin).map_or(0, |place| place + 1);
         let mut components = given[..count].iter().filter_map(|it| name::snapshot(&it.name));
-        if components.clone().any(|it| name.len() + 1 + it.len() > name::NAME_LIMIT) {
+        if components.clone().any(|it| name::is_too_long(&format!("{name}@{it}"))) {
             return Err(Reason::TooManyBelow);
         }
-        if let Some(component) = components.rfind(|it| whole.base.snapshot(it).is_some()) {
-            return Err(Reason::Text(format!("conflicting snapshot '{component}' from parent '{origin}'")));
-        }
-        self.layer.order(&format!("promote {}", whole.path))?;
-        self.follow_layer();
+        self.layer.order(&format!("promote {}", whole.path)).map_err(|refusal| match components.rfind(|it| whole.base.snapshot(it).is_some()) {
+            Some(it) if refusal == Refusal::NameClash => Reason::Text(format!("conflicting snapshot '{it}' from parent '{origin}'")),
+            _ => refusal.into(),
+        })?;
+        self.tree.promote(name, base, count);
         Ok(())
     }
 }

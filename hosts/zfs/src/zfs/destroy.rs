@@ -3,6 +3,7 @@
 use super::walk;
 use crate::call::Call;
 use crate::dataset::{Dataset, Kind};
+use crate::dependents::{Clones, Dependents, Purpose};
 use crate::failure::{Action, Failure, Outcome, Trying};
 use crate::host::Host;
 use crate::name;
@@ -12,7 +13,9 @@ use crate::property::Kinds;
 use crate::protocol::Status;
 use crate::size;
 use crate::usage::{Usage, ZfsCommand};
-use std::collections::HashSet;
+use std::collections::{HashMap, HashSet};
+use std::mem;
+use std::ops::Range;
 
 const USAGE: Usage = Usage::Zfs(ZfsCommand::Destroy);
 
@@ -72,19 +75,18 @@ pub fn run(call: &mut Call, words: &[String]) -> Outcome {
     let kinds = if manner.is_deferred && !target.contains('@') { Kinds::SNAPSHOT } else { Kinds::FV };
     let pool = walk::open(call, &base, kinds)?;
     let folder = call.request.folder.clone();
-    let run = move |host: &mut Host| {
+    let (output, outcome) = pool.run(move |host| {
         let mut output = Output::default();
-        match target.split_once('@') {
-            Some((base, spec)) => snapshots(host, base, spec, manner, &mut output)?,
-            None => {
-                file_system(host, &target, manner, &mut output)?;
-                host.check_unused(&target, &folder)?;
-            }
-        }
-        Ok(output)
-    };
-    let output = if manner.is_dry { pool.run(run)?? } else { call.change(&pool, run)? };
+        let mut run = |host: &mut Host| match target.split_once('@') {
+            Some((base, spec)) => snapshots(host, base, spec, manner, &mut output),
+            None => file_system(host, &target, &folder, manner, &mut output),
+        };
+        let outcome = if manner.is_dry { run(host) } else { host.change(run) };
+        (output, outcome)
+    })?;
+    // What was told before a refusal is told all the same.
     call.output.append(output);
+    outcome?;
     if !manner.is_dry {
         call.log(&pool);
     }
@@ -110,7 +112,7 @@ fn bookmark(call: &mut Call, target: &str, manner: Manner) -> Outcome {
     Ok(())
 }
 
-fn file_system(host: &mut Host, target: &str, manner: Manner, output: &mut Output) -> Outcome {
+fn file_system(host: &mut Host, target: &str, folder: &str, manner: Manner, output: &mut Output) -> Outcome {
     let dataset = host.open(target)?;
     let is_root = !target.contains('/');
     if is_root && !manner.is_recursive {
@@ -120,22 +122,35 @@ fn file_system(host: &mut Host, target: &str, manner: Manner, output: &mut Outpu
              use 'zpool destroy {target}' to destroy the pool itself"
         )));
     }
-    let dependents = host.dependents(&dataset);
+    let clones = host.all_clones();
     if !manner.with_clones {
-        check_dependents(&dataset, &dependents, manner.is_recursive)?;
+        check_dependents(host, &dataset, &clones, manner.is_recursive)?;
     }
+    let purpose = if manner.is_dry { Purpose::DryRun } else { Purpose::Destroy };
+    tell_doomed(host, &dataset, &clones, purpose, manner, output)?;
     if manner.is_verbose {
-        dependents.iter().chain([&dataset.name]).for_each(|name| manner.tell(output, name));
+        manner.tell(output, target);
     }
     if manner.is_dry {
         return Ok(());
     }
-    host.destroy_tree(target)
+    host.destroy_tree(target)?;
+    host.check_unused(target, folder)
+}
+
+/// Tells what goes before a dataset where that is asked for, up to where one that depends on itself is met.
+fn tell_doomed(host: &Host, dataset: &Dataset, clones: &Clones, purpose: Purpose, manner: Manner, output: &mut Output) -> Outcome {
+    let dependents = Dependents::of(dataset, &host.tree, clones, purpose);
+    if manner.is_verbose {
+        dependents.names.iter().for_each(|name| manner.tell(output, name));
+    }
+    dependents.outcome
 }
 
 /// Fails where something depends on a dataset that the options don't say to destroy.
-fn check_dependents(dataset: &Dataset, dependents: &[String], is_recursive: bool) -> Outcome {
+fn check_dependents(host: &Host, dataset: &Dataset, clones: &Clones, is_recursive: bool) -> Outcome {
     let target = &dataset.name;
+    let dependents = Dependents::of(dataset, &host.tree, clones, Purpose::Check).names;
     let is_inside = |name: &str| name::is_below(name, target) || name.strip_prefix(target.as_str()).is_some_and(|rest| rest.starts_with('@'));
     let (what, option, found): (_, _, Vec<&String>) = if is_recursive || dataset.kind() == Kind::Snapshot {
         ("has dependent clones", "-R", dependents.iter().filter(|name| !is_inside(name)).collect())
@@ -154,18 +169,20 @@ fn snapshots(host: &mut Host, base: &str, spec: &str, manner: Manner, output: &m
     let mut doomed = Vec::new();
     let mut cloned = Vec::new();
     let mut reclaimed = 0;
+    let clones = host.all_clones();
     let trees = if manner.is_recursive { host.tree.with_below(base) } else { vec![base.to_owned()] };
     for name in trees {
-        let picked = picked(host, &name, spec);
-        for snapshot in &picked {
-            if !manner.with_clones && !manner.is_deferred {
-                let dependents = host.dependents(snapshot);
-                cloned.extend(check_dependents(snapshot, &dependents, manner.is_recursive).err());
-            }
+        let all = host.tree.snapshots(&name);
+        let ranges = ranges(&all, spec);
+        if !manner.with_clones && !manner.is_deferred {
+            let named = ranges.iter().flat_map(|range| &all[range.clone()]);
+            cloned.extend(named.filter_map(|snapshot| check_dependents(host, snapshot, &clones, manner.is_recursive).err()));
         }
+        let picked = picked(&all, &ranges);
         if manner.is_verbose {
-            picked.iter().for_each(|snapshot| manner.tell(output, &snapshot.name));
-            reclaimed += reclaimable(host, &name, &picked);
+            // Once one can't go, the others only would.
+            let manner = Manner { is_dry: manner.is_dry || !cloned.is_empty(), ..manner };
+            reclaimed += tell_picked(host, &all, &picked, manner, output);
         }
         doomed.extend(picked);
     }
@@ -178,57 +195,54 @@ fn snapshots(host: &mut Host, base: &str, spec: &str, manner: Manner, output: &m
     if manner.is_verbose {
         manner.tell_reclaimed(output, reclaimed);
     }
-    if manner.is_dry { Ok(()) } else { destroy_all(host, &doomed, manner) }
+    if manner.is_dry { Ok(()) } else { destroy_all(host, &doomed, &clones, manner, output) }
 }
 
-/// The snapshots of a file system that `a,b%c` means, oldest first. Names that nothing has are passed over.
-fn picked(host: &Host, base: &str, spec: &str) -> Vec<Dataset> {
-    let all = host.tree.snapshots(base);
-    let mut names: HashSet<&str> = HashSet::new();
-    for part in spec.split(',') {
-        match part.split_once('%') {
-            None => {
-                names.insert(part);
-            }
-            Some((first, last)) => names.extend(range(&all, first, last)),
+/// The places that `a,b%c` means among the snapshots of a file system, as it names them. Names that nothing has are passed over, and so is a range
+/// whose last stands before its first.
+fn ranges(all: &[Dataset], spec: &str) -> Vec<Range<usize>> {
+    let places: HashMap<&str, usize> = all.iter().enumerate().filter_map(|(place, it)| Some((name::snapshot(&it.name)?, place))).collect();
+    let place = |name: &str| places.get(name).copied();
+    let range = |part: &str| {
+        let Some((first, last)) = part.split_once('%') else { return place(part).map(|only| only..only + 1) };
+        let from = if first.is_empty() { 0 } else { place(first)? };
+        let to = if last.is_empty() { all.len() } else { place(last)? + 1 };
+        (from < to).then_some(from..to)
+    };
+    spec.split(',').filter_map(range).collect()
+}
+
+/// Those snapshots, each where it is named last.
+fn picked(all: &[Dataset], ranges: &[Range<usize>]) -> Vec<Dataset> {
+    let mut is_left = vec![true; all.len()];
+    let places = ranges.iter().rev().flat_map(|range| range.clone().rev());
+    let mut picked: Vec<Dataset> = places.filter(|&place| mem::take(&mut is_left[place])).map(|place| all[place].clone()).collect();
+    picked.reverse();
+    picked
+}
+
+/// Tells the snapshots that go, oldest first. What it gives are the bytes that would be freed: of each run of snapshots that stand together.
+fn tell_picked(host: &mut Host, all: &[Dataset], picked: &[Dataset], manner: Manner, output: &mut Output) -> u64 {
+    let doomed: HashSet<&str> = picked.iter().map(|snapshot| snapshot.name.as_str()).collect();
+    let runs = all.split(|snapshot| !doomed.contains(snapshot.name.as_str()));
+    let component = |snapshot: &Dataset| name::snapshot(&snapshot.path).unwrap_or_default().to_owned();
+    let mut reclaimed = 0;
+    for run in runs {
+        run.iter().for_each(|snapshot| manner.tell(output, &snapshot.name));
+        if let [first, ..] = run {
+            let last = run.last().unwrap_or(first);
+            let line = format!("wouldfree {} {} {}", name::base(&first.path), component(first), component(last));
+            reclaimed += host.layer.number(&line).unwrap_or(0);
         }
     }
-    let component = |snapshot: &Dataset| name::snapshot(&snapshot.name).unwrap_or_default().to_owned();
-    all.iter().filter(|snapshot| names.contains(component(snapshot).as_str())).cloned().collect()
+    reclaimed
 }
 
-/// The components from one snapshot to another. Either end may be left out; one that isn't there, or stands after the last, gives none.
-fn range<'a>(all: &'a [Dataset], first: &str, last: &str) -> Vec<&'a str> {
-    let names: Vec<&str> = all.iter().filter_map(|snapshot| name::snapshot(&snapshot.name)).collect();
-    let from = if first.is_empty() { Some(0) } else { names.iter().position(|name| *name == first) };
-    let to = if last.is_empty() { names.len().checked_sub(1) } else { names.iter().position(|name| *name == last) };
-    match (from, to) {
-        (Some(from), Some(to)) if from <= to => names[from..=to].to_vec(),
-        _ => Vec::new(),
-    }
-}
-
-/// The bytes that would be freed: of each run of snapshots that stand together.
-fn reclaimable(host: &mut Host, base: &str, picked: &[Dataset]) -> u64 {
-    let doomed: HashSet<&str> = picked.iter().map(|snapshot| snapshot.name.as_str()).collect();
-    let all = host.tree.snapshots(base);
-    let runs: Vec<(String, String)> = all
-        .split(|snapshot| !doomed.contains(snapshot.name.as_str()))
-        .filter_map(|run| Some((run.first()?.path.clone(), run.last()?.path.clone())))
-        .collect();
-    let component = |path: &str| name::snapshot(path).unwrap_or_default().to_owned();
-    let line = |(first, last): &(String, String)| format!("wouldfree {} {} {}", name::base(first), component(first), component(last));
-    runs.iter().map(|run| host.layer.number(&line(run)).unwrap_or(0)).sum()
-}
-
-fn destroy_all(host: &mut Host, doomed: &[Dataset], manner: Manner) -> Outcome {
+fn destroy_all(host: &mut Host, doomed: &[Dataset], clones: &Clones, manner: Manner, output: &mut Output) -> Outcome {
     if manner.with_clones {
         for snapshot in doomed {
-            for clone in host.clones(snapshot).unwrap_or_default() {
-                if host.tree.has(&clone) {
-                    host.destroy_tree(&clone)?;
-                }
-            }
+            tell_doomed(host, snapshot, clones, Purpose::Destroy, manner, output)?;
+            host.destroy_clones(snapshot, clones)?;
         }
     }
     host.destroy_snapshots(doomed, manner.is_deferred)
@@ -240,7 +254,8 @@ mod tests {
     use crate::host::tests::{host, make, snapshot};
 
     fn names(host: &Host, spec: &str) -> Vec<String> {
-        picked(host, "tank/a", spec).iter().filter_map(|it| name::snapshot(&it.name).map(str::to_owned)).collect()
+        let all = host.tree.snapshots("tank/a");
+        picked(&all, &ranges(&all, spec)).iter().filter_map(|it| name::snapshot(&it.name).map(str::to_owned)).collect()
     }
 
     #[test]
@@ -250,9 +265,10 @@ mod tests {
         ["1", "2", "3", "4"].iter().for_each(|name| snapshot(&mut host, &format!("tank/a@{name}")));
         assert_eq!(names(&host, "2%3"), ["2", "3"]);
         assert_eq!(names(&host, "%2,4"), ["1", "2", "4"]);
+        assert_eq!(names(&host, "4,2%3,%2"), ["4", "3", "1", "2"]);
         assert_eq!(names(&host, "%"), ["1", "2", "3", "4"]);
         assert_eq!(names(&host, "3%"), ["3", "4"]);
-        assert_eq!(names(&host, "1,,9,3,"), ["1", "3"]);
+        assert_eq!(names(&host, "1,,9,3,1"), ["3", "1"]);
         for none in ["3%2", "0%2", "2%9", "9", "1%%2", "1%2%3", "1%@2"] {
             assert!(names(&host, none).is_empty(), "{none}");
         }
@@ -266,7 +282,7 @@ mod tests {
         snapshot(&mut host, "tank/a/b@s");
         host.change(|host| host.make_clone("tank/a/b@s", "tank/c", 1).map_err(|_| Failure::Silent)).unwrap();
         let manner = Manner { is_recursive: true, with_clones: false, is_deferred: false, is_dry: false, is_verbose: false, is_scripted: false };
-        let destroy = |host: &mut Host, manner| host.change(|host| file_system(host, "tank/a", manner, &mut Output::default()));
+        let destroy = |host: &mut Host, manner| host.change(|host| file_system(host, "tank/a", "/", manner, &mut Output::default()));
         let text = destroy(&mut host, manner).unwrap_err().to_string();
         assert_eq!(text, "cannot destroy 'tank/a': filesystem has dependent clones\nuse '-R' to destroy the following datasets:\ntank/c\n");
         assert!(host.tree.has("tank/a/b@s"));

@@ -5,6 +5,7 @@ use crate::call::Call;
 use crate::dataset::{Dataset, Hold};
 use crate::failure::{Action, Failure, Outcome, Reason, Trying};
 use crate::host::Host;
+use crate::name;
 use crate::output::{date, Column, Table};
 use crate::property::Kinds;
 use crate::usage::{Usage, ZfsCommand};
@@ -93,27 +94,26 @@ fn each(host: &mut Host, deed: Deed, tag: &str, name: &str, is_recursive: bool, 
 }
 
 impl Host {
-    /// Puts a tag. The layer has one of its own for it, so that it may have any character.
+    /// Puts a tag. It may have any character, so the layer has a number for it.
     pub fn hold(&mut self, name: &str, tag: &str, clock: i64) -> Result<(), Reason> {
         if tag.len() > TAG_LIMIT {
             return Err(Reason::TagTooLong);
         }
-        let dataset = self.tree.find(name).ok_or(Reason::NoDataset)?;
-        if dataset.snapshot().is_some_and(|it| it.holds.contains_key(tag)) {
+        let snapshot = self.tree.edit_snapshot(name).ok_or(Reason::NoDataset)?;
+        if snapshot.holds.contains_key(tag) {
             return Err(Reason::TagExists);
         }
-        let own = self.tree.next_component();
-        self.layer.order(&format!("hold {own} {}", dataset.path))?;
-        let snapshot = self.tree.edit_snapshot(name).ok_or(Reason::NoDataset)?;
-        snapshot.holds.insert(tag.to_owned(), Hold { time: clock, tag: own });
+        let number = snapshot.next_tag();
+        self.layer.order(&format!("hold {number} {}", name::in_layer(name)))?;
+        snapshot.holds.insert(tag.to_owned(), Hold { time: clock, number });
         Ok(())
     }
 
     pub fn release(&mut self, name: &str, tag: &str) -> Result<(), Reason> {
-        let dataset = self.tree.find(name).ok_or(Reason::NoDataset)?;
-        let own = dataset.snapshot().and_then(|it| it.holds.get(tag)).ok_or(Reason::NoTag)?.tag.clone();
-        self.layer.order(&format!("release {own} {}", dataset.path))?;
-        self.tree.edit_snapshot(name).ok_or(Reason::NoDataset)?.holds.remove(tag);
+        let snapshot = self.tree.edit_snapshot(name).ok_or(Reason::NoDataset)?;
+        let number = snapshot.holds.get(tag).ok_or(Reason::NoTag)?.number;
+        self.layer.order(&format!("release {number} {}", name::in_layer(name)))?;
+        snapshot.holds.remove(tag);
         Ok(())
     }
 }

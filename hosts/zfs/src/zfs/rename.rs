@@ -1,4 +1,4 @@
-//! `zfs rename`. A file system is renamed in the layer, and a snapshot here alone.
+//! `zfs rename`: one request of the layer, of a file system with all below it, or of snapshots.
 
 use super::walk;
 use crate::call::Call;
@@ -64,26 +64,23 @@ fn rename_snapshots(host: &mut Host, source: &str, target: &str, is_recursive: b
         return Ok(());
     }
     name::check(&format!("{base}@{new}"), Kinds::SNAPSHOT, true).map_err(to)?;
+    let action = || Action::Rename(source.to_owned());
     let trees = if is_recursive { host.tree.with_below(base) } else { vec![base.to_owned()] };
-    for name in trees {
-        let (from, into) = (format!("{name}@{old}"), format!("{name}@{new}"));
-        if !host.tree.has(&from) {
-            continue;
-        }
-        let reason = match host.tree.has(&into) {
-            true if is_recursive => Some(Reason::Text("a child dataset already has a snapshot with the new name".into())),
-            true => Some(Reason::Exists),
-            false if into.len() > name::NAME_LIMIT => Some(Reason::TooManyBelow),
-            false => None,
-        };
-        if let Some(reason) = reason {
-            return Err(Failure::Cannot(Action::Rename(source.to_owned()), reason));
-        }
-        if let Some(snapshot) = host.tree.edit_snapshot(&from) {
-            snapshot.name = new.to_owned();
-        }
+    let mut renamed = trees.iter().filter(|name| host.tree.has(&format!("{name}@{old}")));
+    if let Some(reason) = renamed.find_map(|name| why_not(host, &format!("{name}@{new}"), is_recursive)) {
+        return Err(Failure::Cannot(action(), reason));
     }
-    Ok(())
+    host.rename_snapshot(source, new, is_recursive).trying(action)
+}
+
+/// Why a snapshot can't get a name.
+fn why_not(host: &Host, name: &str, is_recursive: bool) -> Option<Reason> {
+    match host.tree.has(name) {
+        true if is_recursive => Some(Reason::Text("a child dataset already has a snapshot with the new name".into())),
+        true => Some(Reason::Exists),
+        false if name::is_too_long(name) => Some(Reason::TooManyBelow),
+        false => None,
+    }
 }
 
 /// Where the client stands counts if what is mounted is to move. What is told of file systems that can't be mounted in their new places.
@@ -223,7 +220,7 @@ mod tests {
         assert_eq!(read(&mut host, "tank/x/c/b@1", 2), Some(3));
         assert_eq!(host.layer.number("get quota p/x/c"), Ok(1_000_448));
         assert_eq!(host.origin("tank/clone").as_deref(), Some("tank/x/c@2"));
-        assert_eq!(host.layer.ask("list").unwrap(), "p p/clone p/x p/x/c p/x/c@1 p/x/c@2 p/x/c#5 p/x/c/b p/x/c/b@3");
+        assert_eq!(host.layer.ask("list").unwrap(), "p p/clone p/x p/x/c p/x/c@1 p/x/c@2 p/x/c#0 p/x/c/b p/x/c/b@1");
         // The tree is what the layer lists.
         let before = format!("{:?}", host.tree);
         host.follow_layer();
@@ -243,6 +240,24 @@ mod tests {
         assert_eq!(rename(&mut host, "tank/a", "tank/x/a").unwrap_err(), "cannot rename 'tank/a': out of space\n");
         assert_eq!((format!("{:?}", host.tree), host.layer.ask("list").unwrap()), before);
         rename(&mut host, "tank/a", "tank/b").unwrap();
+    }
+
+    #[test]
+    fn a_renamed_snapshot_has_its_name_in_the_layer() {
+        let mut host = prepared();
+        let kept = |host: &mut Host, name: &str| (host.open(name).unwrap().guid(), [0, 1, 7].map(|block| read(host, name, block)));
+        let before = ["tank/a@1", "tank/a/b@1"].map(|name| kept(&mut host, name));
+        host.change(|host| rename_snapshots(host, "tank/a@1", "@a b", true)).unwrap();
+        assert_eq!(host.layer.ask("list").unwrap(), "p p/a p/a@a:._b p/a@2 p/a#0 p/a/b p/a/b@a:._b p/clone p/x");
+        assert_eq!(["tank/a@a b", "tank/a/b@a b"].map(|name| kept(&mut host, name)), before);
+        // The tree is what the layer lists.
+        let tree = format!("{:?}", host.tree);
+        host.follow_layer();
+        assert_eq!(format!("{:?}", host.tree), tree);
+        host.change(|host| rename_snapshots(host, "tank/a@2", "tank/a@1", false)).unwrap();
+        assert_eq!((host.origin("tank/clone").as_deref(), host.layer.ask("holds p/a@a:._b").as_deref()), (Some("tank/a@1"), Ok("0")));
+        host.change(|host| host.release("tank/a@a b", "kept").map_err(|_| Failure::Silent)).unwrap();
+        assert_eq!(host.layer.ask("holds p/a@a:._b").as_deref(), Ok("-"));
     }
 
     #[test]

@@ -3,6 +3,7 @@
 use super::walk;
 use crate::call::Call;
 use crate::dataset::Dataset;
+use crate::dependents::{Dependents, Purpose};
 use crate::failure::{Failure, Outcome};
 use crate::host::Host;
 use crate::name;
@@ -52,7 +53,8 @@ fn check(host: &mut Host, snapshot: &Dataset, is_recursive: bool) -> Outcome {
         }
         return Err(Failure::Told(text));
     }
-    let clones: Vec<String> = newer.iter().flat_map(|it| host.dependents(it)).collect();
+    let by_origin = host.all_clones();
+    let clones: Vec<String> = newer.iter().flat_map(|it| Dependents::of(it, &host.tree, &by_origin, Purpose::Check).names).collect();
     if clones.is_empty() {
         return Ok(());
     }

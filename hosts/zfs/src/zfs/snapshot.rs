@@ -170,8 +170,13 @@ mod tests {
         host.remove_bookmark(&one).unwrap();
         host.follow_layer();
         assert!(host.tree.has("tank/a#two") && !host.tree.has("tank/a#one"));
-        let two = host.open("tank/a#two").unwrap();
-        host.remove_bookmark(&two).unwrap();
+        // The first's name is free, and the copy stands for the layer's as before.
+        make_bookmark(&mut host, "tank/a@s", "tank/a#one").unwrap();
+        assert_eq!(host.layer.ask("list").unwrap(), "p p/a p/a@s p/a#0 p/a#1");
+        for name in ["tank/a#two", "tank/a#one"] {
+            let bookmark = host.open(name).unwrap();
+            host.remove_bookmark(&bookmark).unwrap();
+        }
         assert_eq!(host.layer.ask("list").unwrap().matches('#').count(), 0);
     }
 

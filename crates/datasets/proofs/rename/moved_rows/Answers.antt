@@ -2,6 +2,8 @@ use Rattle.std.proofs.Common.{◌≡◌, ◌++◌, ◌∷◌, [], suc, drop, tak
 use Rattle.std.proofs.lemmas.List.{take_more}
 use Rattle.std.proofs.Math.Seq.{split_at}
 use Rattle.std.specs.Arc.{arc_value}
+use Rattle.std.specs.declared.sync.Arc.{Arc}
+use Rattle.std.specs.declared.alloc.Global.{Global}
 use Rattle.std.specs.List.{insert}
 use Rattle.std.specs.FinMap as finmap
 use Rattle.std.specs.FinMap.{get, from_sorted}
@@ -9,7 +11,7 @@ use Rattle.base.specs.Names.{name_cmp}
 use Rattle.file_system.specs.Rows.{Row, entry_in}
 use Rattle.datasets.specs.CloneNames.{with_origin}
 use Rattle.datasets.specs.Places.{IsGapFor}
-use Rattle.datasets.specs.Renames.{Owner, moved_row, AreMoved}
+use Rattle.datasets.specs.Renames.{moved_row, AreMoved}
 use Rattle.datasets.proofs.Moves.{key_absent, row_moved, none_moved, row_short}
 use Rattle.datasets.proofs.Ties.{map_inserted}
 use Rattle.datasets.proofs.rename.moved_rows.Goals as goal
@@ -38,7 +40,7 @@ pub loop-row-preserved : goal.loop-row-preserved
 loop-row-preserved c =
     let i = c.loop-row.row-index in
     let rows = c.args.rows.now in
-    let x : Owner = c.row-item.result in
+    let x : Arc Row Global = c.row-item.result in
     let from = c.args.from.now in
     let to = c.args.to.now in
     let parts : rows ≡ take i rows ++ x ∷ drop (suc i) rows = split_at rows i x c.loop-row-test.true ∙ ap (λ z. take i rows ++ z ∷ drop (suc i) rows) (sym c.row-item.is) in

@@ -3,7 +3,7 @@ use Rattle.model.specs.World.{Snap}
 use Rattle.snapshots.specs.declared.kept.Kept.{Kept}
 use Rattle.shared_list.specs.Left.{left}
 use Rattle.datasets.specs.Dead.{snaps_in}
-use Rattle.snap.specs.Lengths.{is_long}
+use Rattle.model.specs.Lengths.{is_long}
 use Rattle.snap.proofs.Yielded.{yielded_all, yielded_front, one_passes, none_passes, next_fails}
 use Rattle.snap.proofs.lengths.any_long_snapshot.Goals as goal
 

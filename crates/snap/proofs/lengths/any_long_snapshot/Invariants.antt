@@ -1,6 +1,6 @@
 use Rattle.std.proofs.Common.{◌≡◌, Bor, map, false}
 use Rattle.snapshots.specs.declared.kept.Kept.{Kept}
-use Rattle.snap.specs.Lengths.{any_long}
+use Rattle.model.specs.Lengths.{any_long}
 use Rattle.snap.proofs.lengths.any_long_snapshot.Given as goal
 
 -- none of those so far

@@ -3,7 +3,7 @@ use Rattle.model.specs.World.{Snap}
 use Rattle.snapshots.specs.declared.kept.Kept.{Kept}
 use Rattle.shared_list.specs.Left.{left}
 use Rattle.datasets.specs.Dead.{snaps_in}
-use Rattle.snap.specs.Lengths.{is_long}
+use Rattle.model.specs.Lengths.{is_long}
 use Rattle.snap.proofs.Yielded.{gt_is, yielded_all, yielded_front, none_early, none_left, one_early, still_none}
 use Rattle.snap.proofs.lengths.any_long_upto.Goals as goal
 

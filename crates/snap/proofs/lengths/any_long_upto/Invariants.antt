@@ -2,7 +2,7 @@ use Rattle.std.proofs.Common.{◌≡◌, Bor, map, false}
 use Rattle.std.specs.List.{list_any}
 use Rattle.model.specs.World.{Snap}
 use Rattle.snapshots.specs.declared.kept.Kept.{Kept}
-use Rattle.snap.specs.Lengths.{is_long}
+use Rattle.model.specs.Lengths.{is_long}
 use Rattle.snap.proofs.Yielded.{is_early}
 use Rattle.snap.proofs.lengths.any_long_upto.Given as goal
 

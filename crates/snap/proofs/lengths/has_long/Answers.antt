@@ -3,7 +3,7 @@ use Rattle.std.proofs.lemmas.Bool.{lt-ltb, le-ltb}
 use Rattle.std.specs.List.{list_any}
 use Rattle.std.specs.FinMap.{entries, keys}
 use Rattle.snapshots.specs.Marks.{Entry, entry_in}
-use Rattle.snap.specs.Lengths.{is_long}
+use Rattle.model.specs.Lengths.{is_long}
 use Rattle.snap.proofs.Shared.{any_value}
 use Rattle.snap.proofs.lengths.has_long.Goals as goal
 use Rattle.snap.proofs.lengths.has_long.Goals.{then-length-gt-NAME_LIMIT, else-length-gt-NAME_LIMIT}

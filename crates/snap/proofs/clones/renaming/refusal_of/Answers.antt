@@ -4,10 +4,9 @@ use Rattle.std.specs.FinMap.{contains_key}
 use Rattle.base.specs.declared.refusal.Refusal.TheVariants.{BadName}
 use Rattle.base.specs.Names.{same_name, root_name}
 use Rattle.model.specs.Hierarchy.{has_parent, is_in_family}
-use Rattle.model.specs.requests.Rename.{has_long_renamed}
+use Rattle.model.specs.requests.Rename.{has_long_renamed, is_long_after}
 use Rattle.world.specs.Tables.{world_of}
 use Rattle.datasets.specs.Rows.{entry_in}
-use Rattle.snap.specs.Lengths.{is_long_after}
 use Rattle.snap.proofs.Renamed.{found_there, refused_taken, refused_orphan, refused_below, by_length}
 use Rattle.snap.proofs.Shared.{any_value, shared_are}
 use Rattle.snap.proofs.clones.renaming.refusal_of.Goals as goal
