@@ -8,7 +8,7 @@ use Rattle.std.specs.declared.alloc.Global.{Global}
 use Rattle.std.proofs.lemmas.List.{map-append, take_all, take_more}
 use Rattle.std.proofs.Math.Seq.{split_at}
 use Rattle.std.specs.List.{find, list_any}
-use Rattle.std.specs.Option.{option_map, option_map_or, option_copied}
+use Rattle.std.specs.Option.{option_map, option_map_or, option_and_then, option_copied}
 use Rattle.std.specs.Cmp.{tied_itself}
 use Rattle.std.specs.FinMap.{get, insert, entries, entries_sorted, same_map}
 use Rattle.std.specs.FinMap.Entries.{is_sorted}
@@ -18,7 +18,7 @@ use Rattle.base.specs.Surveys.{IsIn}
 use Rattle.base.specs.declared.name.member.Member.{Member}
 use Rattle.base.specs.declared.refusal.Refusal.{Refusal}
 use Rattle.base.specs.declared.refusal.Refusal.TheVariants.{NoDataset, BadName, Exists, Busy, NoMemory}
-use Rattle.model.specs.World.{FileSystem, Snap, id_of, snap_named}
+use Rattle.model.specs.World.{FileSystem, Snap, SnapId, id_of, snap_named}
 use Rattle.model.specs.Lengths.{is_long}
 use Rattle.model.specs.State.{Views, is_viewed}
 use Rattle.model.specs.Rule.{first_of}
@@ -35,7 +35,7 @@ use Rattle.world.proofs.lists.Maps.{at_entry, entry_of, no_value, key_cases}
 use Rattle.world.proofs.views.ViewedRequests.{row_false}
 use Rattle.datasets.specs.Renames.{with_snap_named}
 use Rattle.datasets.specs.Rows.{Entry, Row, entry_in, snaps_at}
-use Rattle.datasets.specs.Holders.{snap_in_system}
+use Rattle.datasets.specs.Holders.{snap_in_system, snapshot_place}
 use Rattle.datasets.specs.Clones.{row_in}
 use Rattle.snap.proofs.Shared.{any_value, shared_are}
 use Rattle.datasets.specs.Table.{IsTable}
@@ -278,19 +278,14 @@ split_rows es rows i x are lt is =
 pub more_rows : (rows : List (Arc Row Global)) (i : ℕ) (x : Arc Row Global) → i < length rows → x ≡ get_or rows i x → map entry_in (take i rows) ++ entry_in x ∷ [] ≡ map entry_in (take (i + 1) rows)
 more_rows rows i x lt is = sym (map-append entry_in (take i rows) (x ∷ [])) ∙ ap (map entry_in) (sym (take_more rows i x lt ∙ ap (λ z. take i rows ++ z ∷ []) (sym is)))
 
-any_found : {A : Type 0} (p : A → Bool) (xs : List A) → is_some (find p xs) ≡ list_any p xs
+-- a test finds one exactly where one passes it
+pub any_found : {A : Type 0} (p : A → Bool) (xs : List A) → is_some (find p xs) ≡ list_any p xs
 any_found p [] = refl
 any_found p (x ∷ xs) = by_test (p x) (any_found p xs)
   where
     by_test : (b : Bool) → is_some (find p xs) ≡ list_any p xs → is_some (cond b (Some x) (find p xs)) ≡ (b || list_any p xs)
     by_test true e = refl
     by_test false e = e
-
--- a snapshot of the name is found exactly where one has it
-pub taken_is : (m : Member) (to : List ℕ) (recursive : Bool) (e : Entry) (u : Snap) → renamed_at m recursive e ≡ Some u → {B : Type 0} (r : Option B)
-    → is_some r ≡ is_some (find (λ (v : Snap). same_name v.name to) e.1.snaps) → is_some r ≡ is_taken_at m to recursive e
-taken_is m to recursive e u is r found =
-    found ∙ any_found (λ (v : Snap). same_name v.name to) e.1.snaps ∙ sym (ap (λ o. option_map_or (λ (v : Snap). list_any (λ (w : Snap). same_name w.name to) e.1.snaps) o false) is)
 
 pub copied_some : {B : Type 0} (r : Option (Bor B)) (x : Option B) → option_copied r ≡ x → is_some x ≡ is_some r
 copied_some None x e = ap is_some (sym e)
@@ -340,3 +335,129 @@ module _ (t : Datasets) (sound : IsTable t) (m : Member) (to : List ℕ) (recurs
     pub untaken : snap_naming_refusal t views m to recursive ≡ None → list_any (is_taken_at m to recursive) (entries t.file_systems) ≡ false
     untaken none = sym (any_is (λ n f v. list_any (λ (w : Snap). same_name w.name to) f.snaps))
         ∙ row_false (snapshot_renaming_row (world_of t) views m to recursive) none (any_renamed (world_of t) m recursive (λ n f v. list_any (λ (w : Snap). same_name w.name to) f.snaps), Exists) (inr (inr (inl refl)))
+
+-- ---- the snapshot that is named, alone
+
+-- the snapshot of this name, and its file system
+pub record IsOwn (t : Datasets) (m : Member) (f : FileSystem) (u : Snap) : Type 0 where
+  pub at : get t.file_systems m.file_system ≡ Some f
+  pub found : find (λ (v : Snap). same_name v.name m.component) f.snaps ≡ Some u
+
+own_in : (t : Datasets) (m : Member) (x : Option FileSystem) → get t.file_systems m.file_system ≡ x → (u : Snap)
+    → option_and_then (λ (f : FileSystem). find (λ (v : Snap). same_name v.name m.component) f.snaps) x ≡ Some u → (f : FileSystem) × IsOwn t m f u
+own_in t m None at u e = absurd (no_value u e)
+own_in t m (Some f) at u e = (f, record { at = at; found = e })
+
+pub own_named : (t : Datasets) (m : Member) (id : SnapId) → option_map {T = Snap} id_of (snap_named (world_of t) m) ≡ Some id → (f : FileSystem) × (u : Snap) × IsOwn t m f u × (id_of u ≡ id)
+own_named t m id e = by_snap (snap_named (world_of t) m) refl e
+  where
+    by_snap : (x : Option Snap) → snap_named (world_of t) m ≡ x → option_map {T = Snap} id_of x ≡ Some id → (f : FileSystem) × (u : Snap) × IsOwn t m f u × (id_of u ≡ id)
+    by_snap None is k = absurd (no_value id k)
+    by_snap (Some u) is k = let own = own_in t m (get t.file_systems m.file_system) refl u is in (own.0, u, own.1, ap (λ o. option_map_or (λ (d : SnapId). d) o id) k)
+
+-- its row
+abbrev pair : Row → Snap → Row × Snap
+pair r u = (r, u)
+
+abbrev placed_by : Datasets → Member → FileSystem → Option Snap → Option (Row × Snap)
+placed_by t m f y = option_map (λ v. (row_in t.file_systems (m.file_system, f), v)) y
+
+abbrev place_in : Datasets → Member → Option FileSystem → Option (Row × Snap)
+place_in t m x = option_and_then (λ f. placed_by t m f (find (λ (v : Snap). same_name v.name m.component) f.snaps)) x
+
+pub own_placed : (t : Datasets) (m : Member) (r : Row) (u : Snap) → Some (r, u) ≡ snapshot_place t m → (r.name ≡ m.file_system) × IsOwn t m r.system u
+own_placed t m r u e = by_system (get t.file_systems m.file_system) refl e
+  where
+    by_system : (x : Option FileSystem) → get t.file_systems m.file_system ≡ x → Some (r, u) ≡ place_in t m x → (r.name ≡ m.file_system) × IsOwn t m r.system u
+    by_system None at k = absurd (no_value (pair r u) (sym k))
+    by_system (Some f) at k = by_snap (find (λ (v : Snap). same_name v.name m.component) f.snaps) refl k
+      where
+        by_snap : (y : Option Snap) → find (λ (v : Snap). same_name v.name m.component) f.snaps ≡ y → Some (r, u) ≡ placed_by t m f y → (r.name ≡ m.file_system) × IsOwn t m r.system u
+        by_snap None is j = absurd (no_value (pair r u) (sym j))
+        by_snap (Some v) is j =
+            let row : r ≡ row_in t.file_systems (m.file_system, f) = ap (λ (o : Option (Row × Snap)). option_map_or (λ (p : Row × Snap). p.0) o r) j in
+            let snap : u ≡ v = ap (λ (o : Option (Row × Snap)). option_map_or (λ (p : Row × Snap). p.1) o u) j in (
+              ap (λ (x : Row). x.name) row,
+              record {
+                at = at ∙ ap Some (sym (ap (λ (x : Row). x.system) row));
+                found = ap (λ (x : Row). find (λ (v : Snap). same_name v.name m.component) x.system.snaps) row ∙ is ∙ ap Some (sym snap);
+              },
+            )
+
+module _ (t : Datasets) (sound : IsTable t) (m : Member) (f : FileSystem) (u : Snap) (own : IsOwn t m f u) where
+  abbrev entry : Entry
+  entry = (m.file_system, f)
+
+  entry_there : IsIn (entries t.file_systems) entry
+  entry_there = in_entries (entries t.file_systems) m.file_system f (entry_of name_order t.file_systems m.file_system f own.at)
+
+  pub there_named : is_some (snap_named (world_of t) m) ≡ true
+  there_named = ap (λ (o : Option FileSystem). is_some (option_and_then (λ (s : FileSystem). find (λ (v : Snap). same_name v.name m.component) s.snaps) o)) own.at ∙ ap is_some own.found
+
+  pub has_own : is_some (snap_in_system t m.file_system (id_of u)) ≡ true
+  has_own = found_there t m.file_system f u own.at (from_find (λ (v : Snap). same_name v.name m.component) f.snaps u own.found).0
+
+  renamed_own : renamed_at m false entry ≡ Some u
+  renamed_own = ap (λ b. cond b (find (λ (v : Snap). same_name v.name m.component) f.snaps) None) (name_itself m.file_system) ∙ own.found
+
+  -- a test of each file system's snapshot that it renames is one of this one
+  abbrev tested_at : (Entry → Snap → Bool) → Entry → Bool
+  tested_at test e = option_map_or (test e) (renamed_at m false e) false
+
+  only_own : (test : Entry → Snap → Bool) → list_any (tested_at test) (entries t.file_systems) ≡ test entry u
+  only_own test = by_value (tested_at test entry) refl ∙ ap (λ o. option_map_or (test entry) o false) renamed_own
+    where
+      by_value : (b : Bool) → tested_at test entry ≡ b → list_any (tested_at test) (entries t.file_systems) ≡ tested_at test entry
+      by_value true is = any_true (tested_at test) (entries t.file_systems) entry entry_there is ∙ sym is
+      by_value false is = any_false (tested_at test) (entries t.file_systems) (λ e k. by_name e k (same_name e.0 m.file_system) refl) ∙ sym is
+        where
+          by_name : (e : Entry) → IsIn (entries t.file_systems) e → (b : Bool) → same_name e.0 m.file_system ≡ b → tested_at test e ≡ false
+          by_name e k true here =
+              let name = one_name e.0 m.file_system here in
+              let system : e.1 ≡ f = ap (λ o. option_map_or (λ (x : FileSystem). x) o f)
+              (sym (at_entry name_order t.file_systems e.0 e.1 (from_entries (entries t.file_systems) e k)) ∙ ap (get t.file_systems) name ∙ own.at) in
+              (λ i. tested_at test (name i, system i)) ∙ is
+          by_name e k false here = ap (λ b. option_map_or (test e) (cond b (find (λ (v : Snap). same_name v.name m.component) e.1.snaps) None) false) here
+
+  module _ (to : List ℕ) where
+    -- why it is refused
+    pub refusal_own : (views : Views) (name : Name) → name ≡ m.file_system
+        → first_of ((is_long (length name) to, BadName) ∷ (list_any (λ (w : Snap). same_name w.name to) f.snaps, Exists) ∷ (is_viewed views (id_of u), Busy) ∷ []) ≡ snap_naming_refusal t views m to false
+    refusal_own views name is =
+        ap (λ n. first_of ((is_long (length n) to, BadName) ∷ (list_any (λ (w : Snap). same_name w.name to) f.snaps, Exists) ∷ (is_viewed views (id_of u), Busy) ∷ [])) is
+        ∙ sym (refusal_is t sound m to false views true (is_long (length m.file_system) to) (list_any (λ (w : Snap). same_name w.name to) f.snaps) (is_viewed views (id_of u))
+        there_named (only_own (λ e v. is_long (length e.0) to)) (only_own (λ e v. list_any (λ (w : Snap). same_name w.name to) e.1.snaps)) (only_own (λ e v. is_viewed views (id_of v))))
+
+    -- where nothing refuses it no snapshot of the file system has the new name
+    pub free_own : list_any (is_taken_at m to false) (entries t.file_systems) ≡ false → find (λ (v : Snap). same_name v.name to) (snaps_at t.file_systems m.file_system) ≡ None
+    free_own free =
+        ap (λ o. find (λ (v : Snap). same_name v.name to) (option_map_or (λ (g : FileSystem). g.snaps) o [])) own.at
+        ∙ find_none (λ (v : Snap). same_name v.name to) f.snaps (λ v k e. true≢false (sym e
+        ∙ any_none (λ (w : Snap). same_name w.name to) f.snaps (sym (only_own (λ e v. list_any (λ (w : Snap). same_name w.name to) e.1.snaps)) ∙ free) v k))
+
+    -- the datasets after it
+    pub named_own : with_snap_named t m.file_system u.group to ≡ snaps_renamed_in t m to false
+    named_own = λ i. record { file_systems = systems i; group = t.group }
+      where
+        put : (with_snap_named t m.file_system u.group to).file_systems ≡ insert t.file_systems m.file_system (named_in to f u.group)
+        put = ap (λ o. option_map_or (λ (g : FileSystem). insert t.file_systems m.file_system (named_in to g u.group)) o t.file_systems) own.at
+
+        other : (n : Name) → ¬ (n ≡ m.file_system) → (b : Bool) → same_name n m.file_system ≡ b → (g : FileSystem) → renamed_at m false (n, g) ≡ None
+        other n ne true is g = absurd (ne (one_name n m.file_system is))
+        other n ne false is g = ap (λ b. cond b (find (λ (v : Snap). same_name v.name m.component) g.snaps) None) is
+
+        stays : (n : Name) → ¬ (n ≡ m.file_system) → (o : Option FileSystem) → get t.file_systems n ≡ o → o ≡ option_map (with_names m to false n) o
+        stays n ne None e = refl
+        stays n ne (Some g) e = ap Some (sym (stays_here t sound n g e m false to (other n ne (same_name n m.file_system) refl g)))
+
+        at_key : (n : Name) → get (with_snap_named t m.file_system u.group to).file_systems n ≡ option_map (with_names m to false n) (get t.file_systems n)
+        at_key n = ap (λ x. get x n) put ∙ ⊎_elim
+            (λ (is : n ≡ m.file_system).
+            ap (get (insert t.file_systems m.file_system (named_in to f u.group))) is ∙ put_here t.file_systems m.file_system (named_in to f u.group)
+            ∙ ap Some (goes_here t sound m.file_system f own.at m false to u renamed_own) ∙ ap (option_map (with_names m to false m.file_system)) (sym own.at)
+            ∙ sym (ap (λ x. option_map (with_names m to false x) (get t.file_systems x)) is))
+            (λ (ne : ¬ (n ≡ m.file_system)). put_other t.file_systems m.file_system (named_in to f u.group) n ne ∙ stays n ne (get t.file_systems n) refl)
+            (key_cases name_order n m.file_system)
+
+        systems : (with_snap_named t m.file_system u.group to).file_systems ≡ (snaps_renamed_in t m to false).file_systems
+        systems = same_map name_order.total name_order.exact _ _ (λ n. at_key n ∙ sym (named_at m to false (world_of t) n))
