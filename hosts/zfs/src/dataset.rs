@@ -4,6 +4,7 @@
 //! snapshot.
 
 use crate::name;
+use crate::snapshots::Snapshots;
 use crate::stream::Partial;
 use std::collections::{BTreeMap, BTreeSet, HashSet};
 use std::fmt;
@@ -53,15 +54,14 @@ pub struct FileSystem {
     pub mount_options: Vec<String>,
     /// What a resumable receive that was cut has left.
     pub partial: Option<Rc<Partial>>,
-    /// Oldest first.
-    pub snapshots: Vec<Rc<Snapshot>>,
+    pub snapshots: Snapshots,
     pub bookmarks: Vec<Rc<Bookmark>>,
 }
 
 #[derive(Clone, Debug)]
 pub struct Snapshot {
     /// What stands after `@`.
-    pub name: String,
+    pub name: Rc<str>,
     pub guid: u64,
     pub creation: i64,
     pub create_txg: u64,
@@ -94,10 +94,6 @@ pub struct Bookmark {
 }
 
 impl FileSystem {
-    pub fn snapshot(&self, component: &str) -> Option<&Rc<Snapshot>> {
-        self.snapshots.iter().find(|snapshot| snapshot.name == component)
-    }
-
     pub fn bookmark(&self, component: &str) -> Option<&Rc<Bookmark>> {
         self.bookmarks.iter().find(|bookmark| bookmark.name == component)
     }
@@ -202,10 +198,16 @@ impl Tree {
         self.file_systems.get_mut(name).map(Rc::make_mut)
     }
 
-    /// A snapshot to change.
+    /// A snapshot to change, but for its name.
     pub fn edit_snapshot(&mut self, name: &str) -> Option<&mut Snapshot> {
         let (base, component) = name.split_once('@')?;
-        self.edit(base)?.snapshots.iter_mut().find(|it| it.name == component).map(Rc::make_mut)
+        self.edit(base)?.snapshots.edit(component)
+    }
+
+    pub fn remove_snapshot(&mut self, name: &str) {
+        if let Some((base, component)) = name.split_once('@') {
+            self.edit(base).map(|it| it.snapshots.remove(component));
+        }
     }
 
     pub fn insert(&mut self, name: String, file_system: FileSystem) {
@@ -254,7 +256,7 @@ impl Tree {
     }
 
     pub fn snapshot_of(&self, name: &str, base: &Rc<FileSystem>, snapshot: &Rc<Snapshot>) -> Dataset {
-        let whole = format!("{name}@{}", snapshot.name);
+        let whole = [name, "@", &snapshot.name].concat();
         let path = name::in_layer(&whole);
         Dataset { name: whole, path, base: Rc::clone(base), part: Part::Snapshot(Rc::clone(snapshot)) }
     }
@@ -273,7 +275,7 @@ impl Tree {
         let base = name::base(name);
         let file_system = self.get(base)?;
         if let Some(component) = name::snapshot(name) {
-            return file_system.snapshot(component).map(|it| self.snapshot_of(base, file_system, it));
+            return file_system.snapshots.get(component).map(|it| self.snapshot_of(base, file_system, it));
         }
         if let Some(component) = name::bookmark(name) {
             return file_system.bookmark(component).map(|it| self.bookmark_of(base, file_system, it));
@@ -284,7 +286,7 @@ impl Tree {
     pub fn has(&self, name: &str) -> bool {
         let Some(file_system) = self.get(name::base(name)) else { return false };
         match (name::snapshot(name), name::bookmark(name)) {
-            (Some(component), _) => file_system.snapshot(component).is_some(),
+            (Some(component), _) => file_system.snapshots.get(component).is_some(),
             (None, Some(component)) => file_system.bookmark(component).is_some(),
             (None, None) => true,
         }
@@ -293,7 +295,9 @@ impl Tree {
     /// The snapshots of a file system, oldest first.
     pub fn snapshots(&self, name: &str) -> Vec<Dataset> {
         let Some(base) = self.get(name) else { return Vec::new() };
-        base.snapshots.iter().map(|it| self.snapshot_of(name, base, it)).collect()
+        let mut all = Vec::with_capacity(base.snapshots.len());
+        all.extend(base.snapshots.iter().map(|it| self.snapshot_of(name, base, it)));
+        all
     }
 
     pub fn bookmarks(&self, name: &str) -> Vec<Dataset> {
@@ -327,28 +331,30 @@ impl Tree {
     /// Gives a snapshot another name, and with `is_recursive` those of its name in all file systems below.
     pub fn rename_snapshot(&mut self, base: &str, old: &str, new: &str, is_recursive: bool) {
         for name in if is_recursive { self.with_below(base) } else { vec![base.to_owned()] } {
-            if let Some(snapshot) = self.edit_snapshot(&format!("{name}@{old}")) {
-                new.clone_into(&mut snapshot.name);
+            if let Some(file_system) = self.edit(&name) {
+                file_system.snapshots.rename(old, new);
             }
         }
     }
 
-    /// Moves the oldest snapshots of a file system before those of its clone.
+    /// Moves the oldest snapshots of a file system to its clone, whose own are younger.
     pub fn promote(&mut self, clone: &str, base: &str, count: usize) {
-        let moved: Vec<Rc<Snapshot>> = self.edit(base).map(|it| it.snapshots.drain(..count).collect()).unwrap_or_default();
+        let Some(base) = self.edit(base) else { return };
+        let moved: Vec<Rc<Snapshot>> = base.snapshots.iter().take(count).cloned().collect();
+        moved.iter().for_each(|it| drop(base.snapshots.remove(&it.name)));
         if let Some(clone) = self.edit(clone) {
-            clone.snapshots.splice(..0, moved);
+            moved.into_iter().for_each(|it| clone.snapshots.add(it));
         }
     }
 }
 
 /// Takes away the snapshots and bookmarks of a file system that the layer doesn't list. Where all are listed it stays shared.
 fn keep_listed(file_system: &mut Rc<FileSystem>, path: &str, listed: &HashSet<&str>) {
-    let has_snapshot = |it: &Rc<Snapshot>| listed.contains(format!("{path}@{}", name::spelt(&it.name)).as_str());
+    let has_snapshot = |it: &Snapshot| listed.contains(format!("{path}@{}", name::spelt(&it.name)).as_str());
     let has_bookmark = |it: &Rc<Bookmark>| listed.contains(format!("{path}#{}", it.number).as_str());
-    if !file_system.snapshots.iter().all(has_snapshot) || !file_system.bookmarks.iter().all(has_bookmark) {
+    if !file_system.snapshots.iter().all(|it| has_snapshot(it)) || !file_system.bookmarks.iter().all(has_bookmark) {
         let changed = Rc::make_mut(file_system);
-        changed.snapshots.retain(has_snapshot);
+        changed.snapshots = changed.snapshots.iter().filter(|it| has_snapshot(it)).cloned().collect();
         changed.bookmarks.retain(has_bookmark);
     }
 }
@@ -362,6 +368,7 @@ impl Default for Tree {
 #[cfg(test)]
 mod tests {
     use super::*;
+    use crate::snapshots::tests::snapshot;
 
     fn file_system() -> FileSystem {
         FileSystem {
@@ -378,24 +385,9 @@ mod tests {
             is_over_refquota: false,
             mount_options: Vec::new(),
             partial: None,
-            snapshots: Vec::new(),
+            snapshots: Snapshots::default(),
             bookmarks: Vec::new(),
         }
-    }
-
-    fn snapshot(name: &str) -> Rc<Snapshot> {
-        Rc::new(Snapshot {
-            name: name.into(),
-            guid: 1,
-            creation: 0,
-            create_txg: 1,
-            objset: 1,
-            local: Values::new(),
-            received: Values::new(),
-            hidden: BTreeSet::new(),
-            volume_size: None,
-            holds: BTreeMap::new(),
-        })
     }
 
     fn tree() -> Tree {
@@ -403,8 +395,13 @@ mod tests {
         for name in ["tank", "tank/a", "tank/a/b", "tank/a-c"] {
             tree.insert(name.into(), file_system());
         }
-        tree.edit("tank/a").unwrap().snapshots.extend(["old", "new"].map(snapshot));
+        ["old", "new"].iter().for_each(|name| add(&mut tree, "tank/a", name));
         tree
+    }
+
+    fn add(tree: &mut Tree, base: &str, name: &str) {
+        let objset = tree.next_objset();
+        tree.edit(base).unwrap().snapshots.add(snapshot(name, objset));
     }
 
     #[test]
@@ -436,7 +433,7 @@ mod tests {
     #[test]
     fn a_promote_moves_the_oldest_snapshots() {
         let mut tree = tree();
-        tree.edit("tank/a-c").unwrap().snapshots.push(snapshot("own"));
+        add(&mut tree, "tank/a-c", "own");
         tree.promote("tank/a-c", "tank/a", 1);
         let names = |name: &str| tree.snapshots(name).into_iter().map(|it| it.name).collect::<Vec<_>>();
         assert_eq!((names("tank/a-c"), names("tank/a")), (vec!["tank/a-c@old".into(), "tank/a-c@own".into()], vec!["tank/a@new".into()]));
@@ -445,8 +442,7 @@ mod tests {
     #[test]
     fn snapshots_of_a_name_are_renamed_where_they_are() {
         let mut tree = tree();
-        tree.edit("tank/a/b").unwrap().snapshots.push(snapshot("new"));
-        tree.edit("tank/a-c").unwrap().snapshots.push(snapshot("new"));
+        ["tank/a/b", "tank/a-c"].iter().for_each(|base| add(&mut tree, base, "new"));
         tree.rename_snapshot("tank/a", "new", "newer", true);
         assert!(tree.has("tank/a@old") && tree.has("tank/a@newer") && tree.has("tank/a/b@newer") && tree.has("tank/a-c@new"));
         tree.rename_snapshot("tank/a", "newer", "new", false);

@@ -95,7 +95,7 @@ impl Walk<'_> {
         for child in tree.children(name) {
             self.file_system(&child)?;
         }
-        for snapshot in tree.get(name).iter().flat_map(|it| &it.snapshots) {
+        for snapshot in tree.get(name).iter().flat_map(|it| it.snapshots.iter()) {
             let snapshot = format!("{name}@{}", snapshot.name);
             self.clones(&snapshot)?;
             self.met.push(snapshot);

@@ -7,6 +7,7 @@ use crate::dataset::{Bookmark, Dataset, FileSystem, Kind, Snapshot, Tree, Values
 use crate::failure::{Failure, Outcome, Reason};
 use crate::layer::{Layer, Refusal};
 use crate::name;
+use crate::snapshots::Snapshots;
 use crate::sys;
 use crate::zpool::vdev::Vdev;
 use std::collections::{BTreeMap, BTreeSet};
@@ -77,7 +78,7 @@ impl Host {
             is_over_refquota: false,
             mount_options: Vec::new(),
             partial: None,
-            snapshots: Vec::new(),
+            snapshots: Snapshots::default(),
             bookmarks: Vec::new(),
         }
     }
@@ -123,6 +124,13 @@ impl Host {
     pub fn follow_layer(&mut self) {
         if let Ok(listing) = self.layer.ask("list") {
             self.tree.follow(&listing);
+        }
+    }
+
+    /// Takes a snapshot away from the tree if the layer hasn't it any more.
+    pub fn follow_snapshot(&mut self, name: &str, path: &str) {
+        if self.layer.get(path, Property::Guid) == Err(Refusal::NoDataset) {
+            self.tree.remove_snapshot(name);
         }
     }
 
@@ -191,7 +199,7 @@ impl Host {
         let file_system = self.tree.edit(base).ok_or(Refusal::NoDataset)?;
         let path = name::in_layer(name);
         let snapshot = Snapshot {
-            name: component.to_owned(),
+            name: component.into(),
             guid: self.layer.get(&path, Property::Guid)?,
             creation,
             create_txg: self.layer.get(&path, Property::CreateTxg)?,
@@ -202,7 +210,7 @@ impl Host {
             volume_size: file_system.local.get("volsize").cloned(),
             holds: BTreeMap::new(),
         };
-        file_system.snapshots.push(Rc::new(snapshot));
+        file_system.snapshots.add(Rc::new(snapshot));
         Ok(())
     }
 

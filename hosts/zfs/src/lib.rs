@@ -21,6 +21,7 @@ mod reading;
 mod removal;
 mod setting;
 mod size;
+mod snapshots;
 mod stream;
 mod sys;
 mod usage;

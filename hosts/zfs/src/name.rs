@@ -2,6 +2,7 @@
 
 use crate::failure::Reason;
 use crate::property::Kinds;
+use std::borrow::Cow;
 use std::fs;
 
 /// The most bytes of a name.
@@ -49,13 +50,16 @@ pub fn bookmark(name: &str) -> Option<&str> {
 
 /// A file system's or a snapshot's name in the layer: the pool is `p` there, and the rest is spelt.
 pub fn in_layer(name: &str) -> String {
-    format!("p{}", spelt(&name[pool(name).len()..]))
+    ["p", &spelt(&name[pool(name).len()..])].concat()
 }
 
 /// A part of a name in the layer. The layer knows no blank and no `%`, so they stand there as `:._` and `:.-`, and a `:.` as `:..`; all else is the
 /// same.
-pub fn spelt(part: &str) -> String {
-    part.replace(":.", ":..").replace(' ', ":._").replace('%', ":.-")
+pub fn spelt(part: &str) -> Cow<'_, str> {
+    if !part.contains([' ', '%']) && !part.contains(":.") {
+        return part.into();
+    }
+    part.replace(":.", ":..").replace(' ', ":._").replace('%', ":.-").into()
 }
 
 /// The name of the file system or snapshot that the layer calls so.

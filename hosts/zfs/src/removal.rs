@@ -63,7 +63,7 @@ impl Host {
         let paths: Vec<&str> = doomed.iter().map(|snapshot| snapshot.path.as_str()).collect();
         match self.layer.destroy_snapshots(&paths, is_deferred) {
             Ok(()) | Err(Refusal::NoDataset) => {
-                self.follow_layer();
+                doomed.iter().for_each(|snapshot| self.follow_snapshot(&snapshot.name, &snapshot.path));
                 Ok(())
             }
             Err(refusal) => Err(self.not_gone(doomed, refusal)),
@@ -139,8 +139,12 @@ impl Host {
     }
 
     pub fn newer_snapshots(&self, snapshot: &Dataset) -> Vec<Dataset> {
-        let mut all = self.tree.snapshots(name::base(&snapshot.name));
-        let place = all.iter().position(|it| it.name == snapshot.name).map_or(0, |place| place + 1);
-        all.split_off(place)
+        let base = name::base(&snapshot.name);
+        let Some(file_system) = self.tree.get(base) else { return Vec::new() };
+        let age = snapshot.snapshot().map_or(0, |it| it.objset);
+        let newer = file_system.snapshots.iter().rev().take_while(|it| it.objset > age);
+        let mut newer: Vec<Dataset> = newer.map(|it| self.tree.snapshot_of(base, file_system, it)).collect();
+        newer.reverse();
+        newer
     }
 }

@@ -92,7 +92,7 @@ impl Host {
         }
         if self.tree.has(destination) {
             // Its name counts first, and then its guid under whatever name.
-            let is_there = self.tree.snapshots(base).iter().any(|it| it.guid() == step.to_guid);
+            let is_there = file_system.snapshots.by_guid(step.to_guid).is_some();
             return if is_there { Ok(true) } else { Err(exists(destination)) };
         }
         if step.from_guid == 0 {
@@ -104,13 +104,19 @@ impl Host {
         }
     }
 
+    /// The snapshot of a guid that a file system has, and its newest one.
+    pub fn source_and_newest(&self, base: &str, guid: u64) -> Option<(Dataset, Dataset)> {
+        let file_system = self.tree.get(base)?;
+        let dataset = |it| self.tree.snapshot_of(base, file_system, it);
+        Some((dataset(file_system.snapshots.by_guid(guid)?), dataset(file_system.snapshots.iter().next_back()?)))
+    }
+
     /// The source is here, and nothing has changed since unless that is forced.
     fn check_source(&mut self, manner: &Manner, base: &str, step: &Step) -> Result<(), Refusal> {
-        let snapshots = self.tree.snapshots(base);
-        let source = snapshots.iter().find(|it| it.guid() == step.from_guid).ok_or(Refusal::WrongSource)?;
-        let newest = snapshots.last().filter(|newest| newest.name != source.name && !manner.is_forced);
+        let (source, newest) = self.source_and_newest(base, step.from_guid).ok_or(Refusal::WrongSource)?;
         match newest {
-            Some(newest) if self.layer.stream_size(&newest.path, Some(&source.path))? > EMPTY => Err(Refusal::Modified),
+            _ if newest.name == source.name || manner.is_forced => Ok(()),
+            newest if self.layer.stream_size(&newest.path, Some(&source.path))? > EMPTY => Err(Refusal::Modified),
             _ => Ok(()),
         }
     }

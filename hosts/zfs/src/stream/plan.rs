@@ -217,7 +217,7 @@ impl Host {
         let listed = |name: &String| {
             let snapshots = self.tree.get(name).map(|it| it.snapshots.clone()).unwrap_or_default();
             let properties = |it: &Snapshot| of_snapshot(it, wanted.is_backup);
-            let listed = snapshots.iter().map(|it| Listed { name: it.name.clone(), guid: it.guid, properties: properties(it) });
+            let listed = snapshots.iter().map(|it| Listed { name: it.name.to_string(), guid: it.guid, properties: properties(it) });
             (name.clone(), listed.collect())
         };
         Begin {
@@ -310,7 +310,10 @@ impl Host {
 
     /// The snapshot of a guid: of this file system, or else of any.
     pub fn by_guid(&self, base: &str, guid: u64) -> Option<Dataset> {
-        let of = |name: &str| self.tree.snapshots(name).into_iter().find(|it| it.guid() == guid);
+        let of = |name: &str| {
+            let base = self.tree.get(name)?;
+            base.snapshots.by_guid(guid).map(|it| self.tree.snapshot_of(name, base, it))
+        };
         of(base).or_else(|| self.tree.iter().find_map(|(name, _)| of(name)))
     }
 

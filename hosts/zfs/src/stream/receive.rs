@@ -237,18 +237,18 @@ impl Host {
     /// have changed nothing.
     fn receive_onto(&mut self, manner: &Manner, arrived: &Arrived, base: &str, bytes: &[u8]) -> Outcome {
         let step = &arrived.step;
-        let snapshots = self.tree.snapshots(base);
         let wrong = |refusal| match refusal {
             Refusal::HasClones | Refusal::Exists => exists(&arrived.destination),
             other => not_received(arrived, base, other),
         };
-        let source = snapshots.iter().find(|it| it.guid() == step.from_guid).ok_or_else(|| wrong(Refusal::WrongSource))?;
-        let newest = snapshots.last().filter(|newest| newest.name != source.name && !manner.is_forced);
-        let respelled = newest.map(|newest| with_source(bytes, newest.guid())).transpose().map_err(wrong)?;
+        let (source, newest) = self.source_and_newest(base, step.from_guid).ok_or_else(|| wrong(Refusal::WrongSource))?;
+        let is_newest = newest.name == source.name;
+        let is_respelled = !is_newest && !manner.is_forced;
+        let respelled = is_respelled.then(|| with_source(bytes, newest.guid())).transpose().map_err(wrong)?;
         let mode = if manner.is_forced { Receiving::Past } else { Receiving::Plain };
         let (to, bytes) = (name::in_layer(&arrived.destination), respelled.as_deref().unwrap_or(bytes));
         self.receive_over_refquota(base, |layer| layer.receive(&to, mode, bytes)).map_err(wrong)?;
-        if manner.is_forced {
+        if manner.is_forced && (!is_newest || !source.base.bookmarks.is_empty()) {
             self.follow_layer();
         }
         if let Some(file_system) = self.tree.edit(base) {
@@ -423,12 +423,10 @@ impl Host {
 
     /// Destroys the snapshots that the sender hasn't. One that is held or has clones stays, as it does in ZFS.
     fn destroy_unsent(&mut self, base: &str, sent: &HashMap<u64, &Listed>) {
-        let mut is_gone = false;
         for snapshot in self.tree.snapshots(base).iter().filter(|it| !sent.contains_key(&it.guid())) {
-            is_gone |= self.layer.order(&format!("destroy {}", snapshot.path)).is_ok();
-        }
-        if is_gone {
-            self.follow_layer();
+            if self.layer.order(&format!("destroy {}", snapshot.path)).is_ok() {
+                self.tree.remove_snapshot(&snapshot.name);
+            }
         }
     }
 

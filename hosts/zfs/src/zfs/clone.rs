@@ -102,7 +102,7 @@ impl Host {
         if components.clone().any(|it| name::is_too_long(&format!("{name}@{it}"))) {
             return Err(Reason::TooManyBelow);
         }
-        self.layer.order(&format!("promote {}", whole.path)).map_err(|refusal| match components.rfind(|it| whole.base.snapshot(it).is_some()) {
+        self.layer.order(&format!("promote {}", whole.path)).map_err(|refusal| match components.rfind(|it| whole.base.snapshots.get(it).is_some()) {
             Some(it) if refusal == Refusal::NameClash => Reason::Text(format!("conflicting snapshot '{it}' from parent '{origin}'")),
             _ => refusal.into(),
         })?;

@@ -2,7 +2,7 @@
 
 use super::walk;
 use crate::call::Call;
-use crate::dataset::{Dataset, Kind};
+use crate::dataset::{Dataset, Kind, Snapshot};
 use crate::dependents::{Clones, Dependents, Purpose};
 use crate::failure::{Action, Failure, Outcome, Trying};
 use crate::host::Host;
@@ -12,10 +12,11 @@ use crate::output::Output;
 use crate::property::Kinds;
 use crate::protocol::Status;
 use crate::size;
+use crate::snapshots::Snapshots;
 use crate::usage::{Usage, ZfsCommand};
-use std::collections::{HashMap, HashSet};
 use std::mem;
 use std::ops::Range;
+use std::rc::Rc;
 
 const USAGE: Usage = Usage::Zfs(ZfsCommand::Destroy);
 
@@ -172,19 +173,20 @@ fn snapshots(host: &mut Host, base: &str, spec: &str, manner: Manner, output: &m
     let clones = host.all_clones();
     let trees = if manner.is_recursive { host.tree.with_below(base) } else { vec![base.to_owned()] };
     for name in trees {
-        let all = host.tree.snapshots(&name);
-        let ranges = ranges(&all, spec);
+        let Some(base) = host.tree.get(&name).cloned() else { continue };
+        let all: Vec<&Rc<Snapshot>> = base.snapshots.iter().collect();
+        let ranges = ranges(&base.snapshots, spec);
         if !manner.with_clones && !manner.is_deferred {
-            let named = ranges.iter().flat_map(|range| &all[range.clone()]);
-            cloned.extend(named.filter_map(|snapshot| check_dependents(host, snapshot, &clones, manner.is_recursive).err()));
+            let named = ranges.iter().flat_map(|range| &all[range.clone()]).map(|it| host.tree.snapshot_of(&name, &base, it));
+            cloned.extend(named.filter_map(|snapshot| check_dependents(host, &snapshot, &clones, manner.is_recursive).err()));
         }
-        let picked = picked(&all, &ranges);
+        let places = picked(all.len(), &ranges);
         if manner.is_verbose {
             // Once one can't go, the others only would.
             let manner = Manner { is_dry: manner.is_dry || !cloned.is_empty(), ..manner };
-            reclaimed += tell_picked(host, &all, &picked, manner, output);
+            reclaimed += tell_picked(host, &name, &all, &places, manner, output);
         }
-        doomed.extend(picked);
+        doomed.extend(places.iter().map(|&place| host.tree.snapshot_of(&name, &base, all[place])));
     }
     if !cloned.is_empty() {
         return Err(Failure::Several(cloned));
@@ -200,38 +202,35 @@ fn snapshots(host: &mut Host, base: &str, spec: &str, manner: Manner, output: &m
 
 /// The places that `a,b%c` means among the snapshots of a file system, as it names them. Names that nothing has are passed over, and so is a range
 /// whose last stands before its first.
-fn ranges(all: &[Dataset], spec: &str) -> Vec<Range<usize>> {
-    let places: HashMap<&str, usize> = all.iter().enumerate().filter_map(|(place, it)| Some((name::snapshot(&it.name)?, place))).collect();
-    let place = |name: &str| places.get(name).copied();
+fn ranges(all: &Snapshots, spec: &str) -> Vec<Range<usize>> {
     let range = |part: &str| {
-        let Some((first, last)) = part.split_once('%') else { return place(part).map(|only| only..only + 1) };
-        let from = if first.is_empty() { 0 } else { place(first)? };
-        let to = if last.is_empty() { all.len() } else { place(last)? + 1 };
+        let Some((first, last)) = part.split_once('%') else { return all.place(part).map(|only| only..only + 1) };
+        let from = if first.is_empty() { 0 } else { all.place(first)? };
+        let to = if last.is_empty() { all.len() } else { all.place(last)? + 1 };
         (from < to).then_some(from..to)
     };
     spec.split(',').filter_map(range).collect()
 }
 
-/// Those snapshots, each where it is named last.
-fn picked(all: &[Dataset], ranges: &[Range<usize>]) -> Vec<Dataset> {
-    let mut is_left = vec![true; all.len()];
+/// Those places of so many, each where it is named last.
+fn picked(count: usize, ranges: &[Range<usize>]) -> Vec<usize> {
+    let mut is_left = vec![true; count];
     let places = ranges.iter().rev().flat_map(|range| range.clone().rev());
-    let mut picked: Vec<Dataset> = places.filter(|&place| mem::take(&mut is_left[place])).map(|place| all[place].clone()).collect();
+    let mut picked: Vec<usize> = places.filter(|&place| mem::take(&mut is_left[place])).collect();
     picked.reverse();
     picked
 }
 
 /// Tells the snapshots that go, oldest first. What it gives are the bytes that would be freed: of each run of snapshots that stand together.
-fn tell_picked(host: &mut Host, all: &[Dataset], picked: &[Dataset], manner: Manner, output: &mut Output) -> u64 {
-    let doomed: HashSet<&str> = picked.iter().map(|snapshot| snapshot.name.as_str()).collect();
-    let runs = all.split(|snapshot| !doomed.contains(snapshot.name.as_str()));
-    let component = |snapshot: &Dataset| name::snapshot(&snapshot.path).unwrap_or_default().to_owned();
+fn tell_picked(host: &mut Host, base: &str, all: &[&Rc<Snapshot>], picked: &[usize], manner: Manner, output: &mut Output) -> u64 {
+    let mut places = picked.to_vec();
+    places.sort_unstable();
     let mut reclaimed = 0;
-    for run in runs {
-        run.iter().for_each(|snapshot| manner.tell(output, &snapshot.name));
+    for run in places.chunk_by(|place, next| place + 1 == *next) {
+        run.iter().for_each(|&place| manner.tell(output, &format!("{base}@{}", all[place].name)));
         if let [first, ..] = run {
             let last = run.last().unwrap_or(first);
-            let line = format!("wouldfree {} {} {}", name::base(&first.path), component(first), component(last));
+            let line = format!("wouldfree {} {} {}", name::in_layer(base), name::spelt(&all[*first].name), name::spelt(&all[*last].name));
             reclaimed += host.layer.number(&line).unwrap_or(0);
         }
     }
@@ -254,8 +253,8 @@ mod tests {
     use crate::host::tests::{host, make, snapshot};
 
     fn names(host: &Host, spec: &str) -> Vec<String> {
-        let all = host.tree.snapshots("tank/a");
-        picked(&all, &ranges(&all, spec)).iter().filter_map(|it| name::snapshot(&it.name).map(str::to_owned)).collect()
+        let all = &host.tree.get("tank/a").unwrap().snapshots;
+        picked(all.len(), &ranges(all, spec)).iter().filter_map(|&place| Some(all.iter().nth(place)?.name.to_string())).collect()
     }
 
     #[test]

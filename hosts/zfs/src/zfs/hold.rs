@@ -89,7 +89,6 @@ fn each(host: &mut Host, deed: Deed, tag: &str, name: &str, is_recursive: bool, 
         let done = if deed == Deed::Hold { host.hold(&name, tag, clock) } else { host.release(&name, tag) };
         done.trying(|| deed.action(&name))?;
     }
-    host.follow_layer();
     Ok(())
 }
 
@@ -109,11 +108,14 @@ impl Host {
         Ok(())
     }
 
+    /// Takes a tag away. A snapshot whose destroy was deferred goes with its last.
     pub fn release(&mut self, name: &str, tag: &str) -> Result<(), Reason> {
         let snapshot = self.tree.edit_snapshot(name).ok_or(Reason::NoDataset)?;
         let number = snapshot.holds.get(tag).ok_or(Reason::NoTag)?.number;
-        self.layer.order(&format!("release {number} {}", name::in_layer(name)))?;
+        let path = name::in_layer(name);
+        self.layer.order(&format!("release {number} {path}"))?;
         snapshot.holds.remove(tag);
+        self.follow_snapshot(name, &path);
         Ok(())
     }
 }
@@ -186,5 +188,19 @@ mod tests {
         host.change(|host| each(host, Deed::Release, tag, "tank@s", true, 1)).unwrap();
         let none = host.change(|host| each(host, Deed::Release, tag, "tank@s", true, 1)).unwrap_err();
         assert_eq!(none.to_string(), "cannot release hold from snapshot 'tank@s': no such tag on this dataset\n");
+    }
+
+    #[test]
+    fn a_deferred_snapshot_goes_with_its_last_tag() {
+        let mut host = host();
+        ["tank@s", "tank@t"].iter().for_each(|name| snapshot(&mut host, name));
+        ["one", "two"].iter().for_each(|tag| host.change(|host| each(host, Deed::Hold, tag, "tank@s", false, 1)).unwrap());
+        let both = ["tank@s", "tank@t"].map(|name| host.open(name).unwrap());
+        host.change(|host| host.destroy_snapshots(&both, true)).unwrap();
+        assert!(host.tree.has("tank@s") && !host.tree.has("tank@t"));
+        host.change(|host| each(host, Deed::Release, "one", "tank@s", false, 1)).unwrap();
+        assert!(host.tree.has("tank@s"));
+        host.change(|host| each(host, Deed::Release, "two", "tank@s", false, 1)).unwrap();
+        assert_eq!((host.tree.has("tank@s"), host.layer.ask("list").as_deref()), (false, Ok("p")));
     }
 }

@@ -127,6 +127,7 @@ impl Walk {
             found.extend(host.tree.whole(name));
         }
         if has_parts && self.kinds.has(Kind::Snapshot) {
+            found.reserve(base.snapshots.len());
             found.extend(base.snapshots.iter().map(|it| host.tree.snapshot_of(name, base, it)));
         }
         if has_parts && self.kinds.has(Kind::Bookmark) {
