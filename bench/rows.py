@@ -32,7 +32,6 @@ import subprocess
 import sys
 from concurrent.futures import ProcessPoolExecutor
 from dataclasses import dataclass, field
-from itertools import islice
 from pathlib import Path
 
 import plain
@@ -201,10 +200,12 @@ class PoolRows:
         case.fault(self)
         status, self.told = told(self.rows, self.program)
         made = [self.tell(b"") for _ in "01"]
-        return case.fault(self) if (status, made) == (0, ["ok", "ok"]) else f"{case.name}: status {status}, pools {made}"
+        if (status, made) != (0, ["ok", "ok"]):
+            return f"{case.name}: status {status}, pools {made}"
+        return case.fault(self) or (f"{case.name}: more is told than rows ask" if next(self.told, None) is not None else "")
 
     def tell(self, row):
-        """What a row tells."""
+        """What a row tells; zeros while the rows are written down, for what counts with it."""
         if self.told is None:
             self.rows.append(row)
             return "0 0"
@@ -306,10 +307,11 @@ def files(only):
 
 def main():
     parser = argparse.ArgumentParser(description="Asks the lines of all rows and examples.")
-    parser.add_argument("programs", nargs="*", metavar="PROGRAM", help="ZFSP, and then POOL_ROWS; bench/plain.py if left out")
+    parser.add_argument("zfsp", nargs="?", metavar="ZFSP", type=Path, help="the built zfsp; bench/plain.py is asked if it is left out")
+    parser.add_argument("pool_rows", nargs="?", metavar="POOL_ROWS", type=Path, help="the built pool_rows")
     parser.add_argument("--only", nargs="+", metavar="NAME", help="the rows of these files alone")
     given = parser.parse_args()
-    programs = [str(Path(it).resolve()) for it in islice(given.programs, 2)]
+    programs = [str(it.resolve()) for it in (given.zfsp, given.pool_rows) if it]
     texts = cases_of(STREAMS, {})[1]
     with ProcessPoolExecutor() as pool:
         asked = [pool.submit(run_file, file, texts, programs) for file in files(given.only)]
