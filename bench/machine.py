@@ -2,25 +2,31 @@
 """Asks for the disk and the memory that the gate takes here, and says what is short.
 
     python3 bench/machine.py
+    python3 bench/machine.py --jobs
 
 What `rt ci` has kept of these texts isn't proved again, so what is wanted goes by the proofs that are still to be done. Of memory that is what
 `rt` itself plans for the largest of them, and it plans with 85 of 100 parts of what is free. Of disk it is 5,000 MB, below which `rt ci` keeps
 nothing of what it proves, and 150 MB for each proof: a library took 72 MB at most, a test's program 20, and the work that the wrong bodies of
 must-fail/ are tried over some 200 in one crate of three. The disk is asked for where `rt` writes: here, among the temporary files, and beside the
 toolchain. The status is 1 where something is short.
+
+With --jobs it prints how many crates `rt ci` is to prove at once, each by one process: one a processor, where 4,000 MB of memory are free for each.
+A crate that several processes prove costs up to a half more: `shared_list` took 8.3 minutes of the processors by several, and 5.1 by one. Where
+there is less memory it prints nothing, and `rt` plans for itself.
 """
 
 import os
 import sys
 import tempfile
 
-from libraries import ROOT, Libraries
+from libraries import ROOT, Libraries, rt_itself
 
 MB = 1_000_000
 PLANNED = 0.85
 LEFT, OF_EACH_PROOF = 5_000, 150
 # The hosts' library is built whatever is kept.
 ALWAYS = "yuzgont_c"
+OF_EACH_JOB = 4_000
 
 
 def open_proofs(libraries):
@@ -30,7 +36,16 @@ def open_proofs(libraries):
     return crates, tests
 
 
+def jobs(rt):
+    """How many crates `rt ci` is to prove at once, or nothing where that is for `rt` to plan."""
+    count = rt.processors()
+    return str(count) if count * OF_EACH_JOB <= rt.free() // MB else ""
+
+
 def main():
+    if sys.argv[1:] == ["--jobs"]:
+        print(jobs(rt_itself()))
+        return 0
     libraries = Libraries()
     rt = libraries.rt
     crates, tests = open_proofs(libraries)

@@ -6,6 +6,7 @@ use Rattle.std.specs.Arc.{arc_value}
 use Rattle.std.specs.declared.sync.Arc.{Arc}
 use Rattle.std.specs.declared.alloc.Global.{Global}
 use Rattle.std.proofs.lemmas.List.{map-append, take_all, take_more}
+use Rattle.std.proofs.lemmas.List.Folds.{list_any-append}
 use Rattle.std.proofs.Math.Seq.{split_at}
 use Rattle.std.specs.List.{find, list_any}
 use Rattle.std.specs.Option.{option_map, option_map_or, option_and_then, option_copied}
@@ -31,6 +32,7 @@ use Rattle.world.proofs.lineage.Put.{put_here, put_other}
 use Rattle.world.proofs.lists.Finding.{from_find, find_none, found_none, any_none, in_right, name_itself, one_name}
 use Rattle.removals.proofs.Families.{before_there}
 use Rattle.removals.proofs.Needed.{found_there}
+use Rattle.removals.proofs.Swept.{any_in}
 use Rattle.world.proofs.lists.Maps.{at_entry, entry_of, no_value, key_cases}
 use Rattle.world.proofs.views.ViewedRequests.{row_false}
 use Rattle.datasets.specs.Renames.{with_snap_named}
@@ -54,15 +56,6 @@ named_in to f group = record f { snaps = map (named_if to group) f.snaps }
 
 -- ---- tests of lists
 
-or_right : (a b : Bool) → b ≡ true → (a || b) ≡ true
-or_right true b e = refl
-or_right false b e = e
-
-any_true : {A : Type 0} (p : A → Bool) (xs : List A) (x : A) → IsIn xs x → p x ≡ true → list_any p xs ≡ true
-any_true p [] x h e = absurd h
-any_true p (y ∷ ys) x (inl is) e = ap (λ b. b || list_any p ys) (ap p (sym is) ∙ e)
-any_true p (y ∷ ys) x (inr k) e = or_right (p y) (list_any p ys) (any_true p ys x k e)
-
 any_false : {A : Type 0} (p : A → Bool) (xs : List A) → ((x : A) → IsIn xs x → p x ≡ false) → list_any p xs ≡ false
 any_false p [] h = refl
 any_false p (y ∷ ys) h = λ i. h y (inl refl) i || any_false p ys (λ x k. h x (inr k)) i
@@ -81,7 +74,7 @@ any_named named test ts one = by_found (find named ts) refl
     no_test w false e h = ap (λ b. b && test w) e
 
     by_test : (v : Snap) → IsIn ts v → named v ≡ true → (b : Bool) → test v ≡ b → list_any (λ v. named v && test v) ts ≡ b
-    by_test v i e true is = any_true (λ v. named v && test v) ts v i (λ j. e j && is j)
+    by_test v i e true is = any_in (λ v. named v && test v) ts v i (λ j. e j && is j)
     by_test v i e false is = any_false (λ v. named v && test v) ts (λ w k. no_test w (named w) refl (λ f. ap test (one w v k i f e) ∙ is))
 
     by_found : (o : Option Snap) → find named ts ≡ o → list_any (λ v. named v && test v) ts ≡ option_map_or test o false
@@ -159,16 +152,11 @@ abbrev pub has_one : List Entry → Name → Bool
 has_one es n = list_any (λ (e : Entry). same_name e.0 n) es
 
 any_joined : {A : Type 0} (p : A → Bool) (xs : List A) (x : A) → list_any p (xs ++ x ∷ []) ≡ (list_any p xs || p x)
-any_joined p [] x = or_idle (p x)
+any_joined p xs x = list_any-append p xs (x ∷ []) ∙ ap (λ b. list_any p xs || b) (or_idle (p x))
   where
     or_idle : (b : Bool) → (b || false) ≡ b
     or_idle true = refl
     or_idle false = refl
-any_joined p (y ∷ ys) x = ap (λ b. p y || b) (any_joined p ys x) ∙ regroup (p y) (list_any p ys) (p x)
-  where
-    regroup : (a b c : Bool) → (a || (b || c)) ≡ ((a || b) || c)
-    regroup true b c = refl
-    regroup false b c = refl
 
 module _ (t : Datasets) (m : Member) (to : List ℕ) (recursive : Bool) where
   -- the snapshots of these file systems have their new names, and all else is as it is in the table
@@ -190,7 +178,7 @@ module _ (t : Datasets) (m : Member) (to : List ℕ) (recursive : Bool) where
       full : (n : Name) (o : Option FileSystem) → get t.file_systems n ≡ o → option_map (λ f. cond (has_one (entries t.file_systems) n) (with_names m to recursive n f) f) o ≡ option_map (with_names m to recursive n) o
       full n None e = refl
       full n (Some f) e = ap (λ b. Some (cond b (with_names m to recursive n f) f))
-          (any_true (λ (e : Entry). same_name e.0 n) (entries t.file_systems) (n, f) (in_entries (entries t.file_systems) n f (entry_of name_order t.file_systems n f e)) (name_itself n))
+          (any_in (λ (e : Entry). same_name e.0 n) (entries t.file_systems) (n, f) (in_entries (entries t.file_systems) n f (entry_of name_order t.file_systems n f e)) (name_itself n))
 
       systems : copy.file_systems ≡ (snaps_renamed_in t m to recursive).file_systems
       systems = same_map name_order.total name_order.exact _ _ (λ n. upto.at n ∙ full n (get t.file_systems n) refl ∙ sym (named_at m to recursive (world_of t) n))
@@ -219,7 +207,7 @@ module _ (t : Datasets) (m : Member) (to : List ℕ) (recursive : Bool) where
           ap (get copy'.file_systems) is ∙ at_it
           ∙ sym (ap (λ x. option_map (λ f. cond (has_one (done ++ r ∷ []) x) (with_names m to recursive x f) f) (get t.file_systems x)) is
           ∙ ap (option_map (λ f. cond (has_one (done ++ r ∷ []) r.0) (with_names m to recursive r.0 f) f)) here
-          ∙ ap (λ b. Some (cond b (with_names m to recursive r.0 r.1) r.1)) (any_true (λ (e : Entry). same_name e.0 r.0) (done ++ r ∷ []) r (in_right done (r ∷ []) r (inl refl)) (name_itself r.0))))
+          ∙ ap (λ b. Some (cond b (with_names m to recursive r.0 r.1) r.1)) (any_in (λ (e : Entry). same_name e.0 r.0) (done ++ r ∷ []) r (in_right done (r ∷ []) r (inl refl)) (name_itself r.0))))
           (λ (ne : ¬ (n ≡ r.0)).
           others n ne ∙ upto.at n
           ∙ ap (λ b. option_map (λ f. cond b (with_names m to recursive n f) f) (get t.file_systems n)) (sym (any_joined (λ (e : Entry). same_name e.0 n) done r ∙ elsewhere n ne (has_one done n) (same_name r.0 n) refl)))
@@ -408,7 +396,7 @@ module _ (t : Datasets) (sound : IsTable t) (m : Member) (f : FileSystem) (u : S
   only_own test = by_value (tested_at test entry) refl ∙ ap (λ o. option_map_or (test entry) o false) renamed_own
     where
       by_value : (b : Bool) → tested_at test entry ≡ b → list_any (tested_at test) (entries t.file_systems) ≡ tested_at test entry
-      by_value true is = any_true (tested_at test) (entries t.file_systems) entry entry_there is ∙ sym is
+      by_value true is = any_in (tested_at test) (entries t.file_systems) entry entry_there is ∙ sym is
       by_value false is = any_false (tested_at test) (entries t.file_systems) (λ e k. by_name e k (same_name e.0 m.file_system) refl) ∙ sym is
         where
           by_name : (e : Entry) → IsIn (entries t.file_systems) e → (b : Bool) → same_name e.0 m.file_system ≡ b → tested_at test e ≡ false

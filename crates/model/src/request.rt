@@ -70,6 +70,13 @@ pub enum PoolProperty {
     Group,
 }
 
+/// A block of an object: block `block`, 0 to 4095, of object `object`, 0 to 255.
+#[derive(Clone, Copy, Default, PartialEq, Eq, Debug)]
+pub struct ObjectBlock {
+    pub object: u32,
+    pub block: u32,
+}
+
 /// One request to a pool.
 #[derive(Drop)]
 pub enum Request {

@@ -10,6 +10,7 @@
 //! world. `apply` passes it the present world, `prepare` a copy, and both settle the effect in the same way.
 #![tactic(auto)]
 
+mod ahead;
 mod changing;
 mod destroying;
 mod effect;

@@ -14,16 +14,18 @@ ghost use Rattle.pool.specs.Pools.{state_in, shown_in, IsHeld};
 ghost use Rattle.images.specs.Roots.{shown_root, roots_in};
 ghost use Rattle.pool.specs.declared.kind.Kind.{Kind};
 
+use crate::ahead::{look, read_ahead};
 use crate::effect::Effect;
 use crate::keep::{Keep, Meters};
 use crate::kind::{Kind, changed_name, kind_of};
 use crate::worlds::World;
 use base::meter::{Meter, SegMeter};
+use base::name::DsName;
 use base::refusal::Refusal;
 use image::Image;
 use images::{DatasetRoot, roots_of};
 use model::reply::Reply;
-use model::request::Request;
+use model::request::{ObjectBlock, Request};
 use model::snapshot_id::SnapshotId;
 use std::alloc::Global;
 use std::marker::Model;
@@ -306,6 +308,17 @@ impl Pool {
         self.facts();
     }
 
+    /// Reads the nodes on the paths to the first sixteen of these blocks of a live file system, side by side. A read or write of one of them that
+    /// follows finds its nodes in the processor's cache, where it would wait for memory once for each level. So a host that knows its next
+    /// requests gains time by it in a large file system. It changes nothing, the meters included, and takes no memory. It costs the logarithm of
+    /// the number of file systems, and at most six nodes a block. Returns how many nodes it read: none where there is no such file system, or
+    /// where its live map has fewer than 4,096 blocks, which a cache has.
+    pub fn read_ahead(&self, name: &DsName, blocks: &[ObjectBlock]) -> u32
+        ensures few { result ≤ 96 }
+    {
+        read_ahead(&self.present.table, name, blocks)
+    }
+
     // What holds for a pool between two steps. It makes the pool's invariant known to the proof, and reads nothing.
     fn facts(&self)
         ensures { IsBetween self.now }
@@ -411,8 +424,8 @@ impl Pool {
         roots_of(alloc, &self.present.table, &mut meter)
     }
 
-    /// Does one step for each request, in order, and returns the replies. NoMemory where the list of replies can't be allocated; no step is done
-    /// then.
+    /// Does one step for each request, in order, and returns the replies. For requests that follow in the list it reads ahead. NoMemory where the
+    /// list of replies can't be allocated; no step is done then.
     pub fn run(&mut self, alloc: Global, requests: &[Request]) -> Result<Vec<Reply>, Refusal>
         ensures ok { IfOk result (λ replies. Run self.old.state requests.now replies.items self.new.state) }
         ensures applied { IfOk result (λ replies. AreApplied self.old requests.now replies.items self.new) }
@@ -421,7 +434,12 @@ impl Pool {
     {
         self.facts();
         let mut replies = Vec::with_capacity(alloc, requests.len())?;
+        let mut next_look = 0;
         for request in requests {
+            let at = replies.len();
+            if at == next_look {
+                next_look = at + look(&self.present.table, &requests[at..]);
+            }
             let mut reply = Reply::Done;
             self.apply(alloc, request, &mut reply);
             replies.push_reserved(reply);

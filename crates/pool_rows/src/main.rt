@@ -22,7 +22,8 @@
 //! | `0 alike` | whether the other pool has the same blocks at the same numbers, in both worlds |
 //! | `0 same LINE; LINE` | whether two lines ask the same |
 //!
-//! `bench/pool_rows.py` tells the same by plain values. Status 3 is want of memory for a line, or a failed read or write.
+//! `bench/pool_rows.py` tells the same by plain values, but for `meters`, whose numbers are in `rows/`. Status 3 is want of memory for a line, or
+//! a failed read or write.
 #![tactic(auto)]
 
 mod asked;

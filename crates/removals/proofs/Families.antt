@@ -1,10 +1,10 @@
 -- Names of one family: a child's is of its parent's family, and comes after its parent's.
-use Rattle.std.proofs.Common.{◌≡◌, ℕ, Bool, true, false, cond, ◌&&◌, ◌||◌, T, List, [], ◌∷◌, ◌++◌, Option, Some, None, is_lt, refl, sym, ap, subst, ◌∙◌, inl, inr, ⊎_elim, length, drop, arith}
+use Rattle.std.proofs.Common.{◌≡◌, ℕ, Bool, true, false, cond, ◌&&◌, T, List, [], ◌∷◌, ◌++◌, Option, Some, None, is_lt, refl, sym, ap, subst, ◌∙◌, inl, inr, ⊎_elim, length, drop, arith}
 use Rattle.std.specs.Prelude.{◌==◌}
 use Rattle.std.specs.Ordering.{nat_cmp}
 use Rattle.std.specs.FinMap.Entries.{is_sorted, below_all}
 use Rattle.std.specs.declared.cmp.Ordering.TheVariants.{Equal, Greater}
-use Rattle.std.proofs.lemmas.Bool.{eqb-true}
+use Rattle.std.proofs.lemmas.Bool.{eqb-true, or_right}
 use Rattle.base.specs.Surveys.{IsIn}
 use Rattle.base.specs.Names.{name_cmp, slash, parent_of, before_slash, same_name, is_descendant}
 use Rattle.datasets.specs.Rows.{Entry}
@@ -39,10 +39,6 @@ family_parts a n e = let k = behind a n e in (drop (length a) n, k.0, k.1)
 -- a child is of each family that its parent is of
 pub child_in_family : (a p q : List ℕ) → is_in_family a p ≡ true → parent_of q ≡ Some p → is_in_family a q ≡ true
 child_in_family a p q within e = or_right (same_name q a) (is_descendant a q) (descendant_by_parent a q p e ∙ within)
-  where
-    or_right : (x y : Bool) → y ≡ true → (x || y) ≡ true
-    or_right true y k = refl
-    or_right false y k = k
 
 longer_after : (p : List ℕ) (x : ℕ) (rest : List ℕ) → name_cmp (p ++ x ∷ rest) p ≡ Greater
 longer_after [] x rest = refl

@@ -3,6 +3,7 @@ use Rattle.std.proofs.Common.{◌≡◌, ◌⊎◌, ℕ, Bool, true, false, cond
 use Rattle.std.specs.Prelude.{nat_lt}
 use Rattle.std.specs.List.{filter, list_any}
 use Rattle.std.specs.FinMap.{get, entries, remove}
+use Rattle.std.proofs.lemmas.Bool.{or_right}
 use Rattle.model.specs.World.{Snap, SnapId, id_of, same_id}
 use Rattle.model.specs.State.{Views, is_viewed}
 use Rattle.world.specs.Shapes.{view_order}
@@ -51,10 +52,6 @@ any_pushed p value (y ∷ ys) x none e = by_test (p (value y)) none (any_pushed 
 pub any_here : {A : Type 0} (p : A → Bool) (xs : List A) (x : A) (ys : List A) → p x ≡ true → list_any p (xs ++ x ∷ ys) ≡ true
 any_here p [] x ys e = ap (λ b. b || list_any p ys) e
 any_here p (z ∷ xs) x ys e = or_right (p z) (list_any p (xs ++ x ∷ ys)) (any_here p xs x ys e)
-  where
-    or_right : (a b : Bool) → b ≡ true → (a || b) ≡ true
-    or_right true b e = refl
-    or_right false b e = e
 
 -- ---- of later groups
 

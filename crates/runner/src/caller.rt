@@ -7,8 +7,9 @@ ghost use Rattle.script.specs.Meaning.{Meaning};
 ghost use Rattle.script.specs.Served.{IsUnserved};
 ghost use Rattle.script.specs.Text.{has_any_length};
 
+use base::name::DsName;
 use model::reply::Reply;
-use model::request::Request;
+use model::request::{ObjectBlock, Request};
 use script::run::Caller;
 use session::Pool;
 use std::alloc::Global;
@@ -44,6 +45,13 @@ impl Caller for PoolCaller {
         self.pool.apply(self.alloc, &request, reply);
         drop(request);
         true
+    }
+
+    fn read_ahead(&self, name: &[u8], blocks: &[ObjectBlock]) -> u32 {
+        match DsName::read(self.alloc, name) {
+            Ok(name) => self.pool.read_ahead(&name, blocks),
+            Err(_) => 0,
+        }
     }
 }
 

@@ -8,7 +8,7 @@ use Rattle.std.proofs.lemmas.Bool.{false≢true}
 use Rattle.std.proofs.Common.{MatchBool, IfSome}
 use Rattle.std.specs.Io.{StartsWith}
 use Rattle.std.specs.Io.KnownBytes.{Keeps, Consumes, IsAtEnd}
-use Rattle.std.proofs.KnownBytes.{Consumes-trans}
+use Rattle.std.proofs.KnownBytes.{Consumes-trans, Keeps-trans}
 use Rattle.memchr.specs.Find.{Nowhere, Passes, is_byte}
 use Rattle.script.specs.Lines.{without_empty_end, lines, kept_of, line_limit, HasNoFeed, TakesMore, TakesFeed, FindsEnd, GivesLine, GivesNone, HasMore}
 
@@ -86,6 +86,14 @@ pub Keeps-consumed : (a b : Option (List ℕ)) (bs rest : List ℕ) → Consumes
 Keeps-consumed None b bs rest h k = tt
 Keeps-consumed (Some xs) None bs rest h k = absurd h
 Keeps-consumed (Some xs) (Some ys) bs rest h k = ap (λ l. bs ++ l) k ∙ sym h
+
+-- a line that was given was given, whatever is looked at afterwards
+pub GivesLine-kept : (a b c : Option (List ℕ)) (k : List ℕ) → GivesLine a b k → Keeps b c → GivesLine a c k
+GivesLine-kept a b c k p q = record {
+  line = p.line;
+  kept_is = p.kept_is;
+  before = λ rest left. p.before rest (Keeps-trans b c (Some rest) q left);
+}
 
 -- looks that ended at a line feed give a line
 pub GivesLine-feed : (a b c : Option (List ℕ)) (k k' : List ℕ) → TakesMore a b [] k → TakesFeed b c k k' → GivesLine a c k'

@@ -3,6 +3,8 @@ ghost use Rattle.std.specs.Prelude.{◌≡◌, ◌≤◌, ◌+◌, ◌++◌, vec
 ghost use Rattle.std.specs.Io.KnownBytes.{Keeps};
 ghost use Rattle.script.specs.Lines.{kept_of, line_limit, Looks, GivesLine, GivesNone, HasMore};
 
+use crate::ahead::Ahead;
+use crate::run::Caller;
 use memchr::memchr;
 use std::io::{BufRead, ErrorKind, Write};
 
@@ -31,11 +33,15 @@ pub(crate) enum Step {
 ///
 /// A read from a terminal or a pipe may wait until the program at the other end has seen the replies. So once the reader's buffer is drained, the
 /// writer is flushed before the next read. For a script from a file that is one flush for each filled buffer.
-pub(crate) fn next_line<R: BufRead, W: Write>(
+///
+/// Once the line is taken, the caller may read ahead for those that are in the buffer.
+pub(crate) fn next_line<C: Caller, R: BufRead, W: Write>(
+    caller: &C,
     reader: &mut R,
     writer: &mut W,
     kept: &mut Vec<u8>,
     is_drained: &mut bool,
+    ahead: &mut Ahead,
 ) -> Result<bool, ReadFault>
     ensures ok { IfOk result (λ found. MatchBool found
         (GivesLine (R.remaining reader.old) (R.remaining reader.new) kept.new.items)
@@ -48,7 +54,10 @@ pub(crate) fn next_line<R: BufRead, W: Write>(
         flush_before(writer, *is_drained)?;
         match look(reader, kept, is_drained)? {
             Step::More => {}
-            Step::Feed => return Ok(true),
+            Step::Feed => {
+                ahead.pass(caller, reader, *is_drained);
+                return Ok(true);
+            }
             Step::End => return Ok(!kept.is_empty()),
         }
     }

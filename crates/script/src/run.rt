@@ -11,6 +11,7 @@ ghost use Rattle.std.specs.Io.KnownBytes.{Appends};
 ghost use Rattle.model.specs.declared.request.Request.{Request};
 ghost use Rattle.model.specs.declared.reply.Reply.{Reply};
 
+use crate::ahead::Ahead;
 use crate::lines::{ReadFault, next_line};
 use crate::parse::request_at;
 use crate::sink::{Roomy, Sink};
@@ -18,7 +19,7 @@ use crate::text::write_reply;
 use base::failing::Failing;
 use base::refusal::Refusal;
 use model::reply::Reply;
-use model::request::Request;
+use model::request::{ObjectBlock, Request};
 use std::alloc::Global;
 use std::io::{BufRead, Write};
 use std::mem;
@@ -32,6 +33,13 @@ pub trait Caller {
     fn ask(&mut self, request: Request, reply: &mut Reply) -> bool
         requires { reply.old ≡ Reply.Done }
         ensures { asks self.old request (if result then Some reply.new else None) self.new };
+
+    /// Reads ahead what requests for these blocks of a live file system will read, so that they needn't wait for it. Nothing is changed by it.
+    /// `name` is what the lines have for the file system. Returns how much was read: 0 where there is nothing to gain, as where a caller doesn't
+    /// read ahead.
+    fn read_ahead(&self, _name: &[u8], _blocks: &[ObjectBlock]) -> u32 {
+        0
+    }
 }
 
 /// The reason why a run of a script ended before the script did.
@@ -128,8 +136,16 @@ pub fn run_script<C: Caller, R: BufRead + Failing, W: Write + Failing>(
     let mut line = Vec::new(alloc);
     let mut refused = false;
     let mut is_drained = false;
+    let mut ahead = Ahead::default();
     'lines: for _ in 0..u64::MAX {
-        let found = match next_line(reader, writer, &mut line, &mut is_drained) {
+        let found = match next_line(
+            caller,
+            reader,
+            writer,
+            &mut line,
+            &mut is_drained,
+            &mut ahead,
+        ) {
             Ok(found) => found,
             Err(ReadFault::NoMemory) => return Err(ScriptFault::NoMemory),
             Err(ReadFault::Failed) => return Err(ScriptFault::of_counts(reads, reader.failures())),

@@ -1,6 +1,7 @@
 //! Versions of a dataset's tree of blocks, which share nodes.
 #![tactic(auto)]
 
+mod ahead;
 mod block;
 mod build;
 mod change;

@@ -7,6 +7,6 @@ mod leaf;
 mod reading;
 mod updates;
 
-pub use leaf::{BLOCK_LIMIT, OBJECT_LIMIT};
+pub use leaf::{BLOCK_LIMIT, OBJECT_LIMIT, leaf_of};
 pub use reading::read;
 pub use updates::{free_of, punch_of, write_of};

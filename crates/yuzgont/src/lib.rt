@@ -43,7 +43,7 @@ pub use model::limits::{Limit, Limits};
 pub use model::names::Names;
 pub use model::receiving::Receiving;
 pub use model::reply::{Reply, Value};
-pub use model::request::{PoolProperty, Property, Request};
+pub use model::request::{ObjectBlock, PoolProperty, Property, Request};
 pub use model::sight::Sight;
 pub use model::snap_names::SnapNames;
 pub use model::source::{Source, SourceName};

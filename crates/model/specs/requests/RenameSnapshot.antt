@@ -26,7 +26,7 @@ abbrev pub with_snaps_renamed : World → Member → List ℕ → Bool → World
 with_snaps_renamed w m to recursive =
     with_file_systems w (λ n f. record f { snaps = map {A = Snap} (λ t. if is_renamed m recursive n t then record t { name = to } else t) f.snaps })
 
--- so it is with a snapshot that it renames (zfs-rename(8), -r)
+-- the test holds of a snapshot that it renames, given the name of its file system and that (zfs-rename(8), -r)
 abbrev pub any_renamed : World → Member → Bool → (List ℕ → FileSystem → Snap → Bool) → Bool
 any_renamed w m recursive test = list_any (λ e. list_any (λ t. is_renamed m recursive e.0 t && test e.0 e.1 t) e.1.snaps) (entries w.file_systems)
 

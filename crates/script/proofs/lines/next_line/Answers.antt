@@ -1,7 +1,7 @@
 use Rattle.std.proofs.Common.{◌≡◌, ap, subst, ◌∙◌, arith, eqb, length, vec_len, rules}
 use Rattle.std.proofs.KnownBytes.{Keeps-trans}
 use Rattle.script.specs.Lines.{Looks}
-use Rattle.script.proofs.LinesLemmas.{TakesMore-more, GivesLine-feed, GivesLine-end, GivesNone-end, MatchBool-nonempty, HasMore-before}
+use Rattle.script.proofs.LinesLemmas.{TakesMore-more, GivesLine-feed, GivesLine-kept, GivesLine-end, GivesNone-end, MatchBool-nonempty, HasMore-before}
 use Rattle.script.proofs.lines.next_line.Goals as goal
 
 pub looks-preserved : goal.looks-preserved
@@ -12,7 +12,7 @@ looks-preserved g c =
 pub returns-in-Feed-clause-ok : goal.returns-in-Feed-clause-ok
 returns-in-Feed-clause-ok g c =
     let look = subst (Looks _ _ _ _) c.in-Feed.is c.in_ok-look.ensures.looks in
-    GivesLine-feed _ _ _ _ _ c.looks.invariant.0 look
+    GivesLine-kept _ _ _ _ (GivesLine-feed _ _ _ _ _ c.looks.invariant.0 look) c.pass.ensures.same
 
 pub returns-in-End-clause-ok : goal.returns-in-End-clause-ok
 returns-in-End-clause-ok g c =
