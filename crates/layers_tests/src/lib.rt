@@ -1,6 +1,9 @@
-//! Tests of what is to be freed, open views, and sends, from outside. `stream_rows` and `snapshot_rows` have the rows of the crates below.
+//! Tests from outside of what is to be freed, open views, sends and images, and of replies, names and entries as values. `stream_rows` and
+//! `snapshot_rows` have the rows of the crates below.
 #![tactic(auto)]
 
+#[cfg(test)]
+mod images;
 #[cfg(test)]
 mod open_views;
 #[cfg(test)]
@@ -9,3 +12,5 @@ mod sent;
 mod slices;
 #[cfg(test)]
 mod streams;
+#[cfg(test)]
+mod values;

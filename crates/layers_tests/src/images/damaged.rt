@@ -1,5 +1,5 @@
 //! Images that are damaged, and bytes that are none.
-use crate::paths::{TOP, fresh, put_steps};
+use crate::images::paths::{TOP, fresh, put_steps};
 use base::refusal::Refusal;
 use image::Image;
 use std::alloc::Global;

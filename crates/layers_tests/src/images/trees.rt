@@ -3,7 +3,7 @@ ghost use Rattle.std.specs.Prelude.{IsTrue, OnOk};
 ghost use Rattle.image.specs.Image.{IsOpen, AreAllOpen};
 ghost use Rattle.tree.specs.Asking.{AllowsChange};
 
-use crate::paths::{fresh, is_walked, leaf_of};
+use crate::images::paths::{fresh, is_walked, leaf_of};
 use base::number::{BlockNo, Group, Key};
 use base::refusal::Refusal;
 use image::{Image, blocks_of};

@@ -9,7 +9,7 @@ use Rattle.tree.specs.Bytes.{root_block}
 use Rattle.tree.specs.declared.block.Root.{Root}
 use Rattle.image.specs.Image.{IsOpen}
 use Rattle.image.specs.PathWrites.{block_on, IsPathOpen, AreSourcesApart}
-use Rattle.image_tests.specs.Split.{IsOld, IsNext}
+use Rattle.layers_tests.specs.Split.{IsOld, IsNext}
 
 -- the levels so far are old before and next after
 pub record AreSplit (kept : List BlockState) (before after : List (Option Root)) (levels : ℕ) : Type 0 where

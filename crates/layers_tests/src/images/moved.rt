@@ -1,9 +1,9 @@
 //! A path that moves, as it is written by where its blocks were and are.
 ghost use Rattle.std.specs.Prelude.{IsTrue};
 ghost use Rattle.image.specs.PathWrites.{block_on, IsPathOpen, AreSourcesApart};
-ghost use Rattle.image_tests.specs.Split.{IsOld, IsNext};
+ghost use Rattle.layers_tests.specs.Split.{IsOld, IsNext};
 
-use crate::paths::{TOP, fresh, is_walked, leaf_of, put_steps};
+use crate::images::paths::{TOP, fresh, is_walked, leaf_of, put_steps};
 use base::number::{BlockNo, Group};
 use image::Image;
 use tree::Root;

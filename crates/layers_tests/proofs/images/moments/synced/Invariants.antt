@@ -1,5 +1,5 @@
 use Rattle.std.proofs.Common.{◌≡◌, length}
-use Rattle.image_tests.proofs.moments.synced.Given as goal
+use Rattle.layers_tests.proofs.images.moments.synced.Given as goal
 
 abbrev pub invariant-loop-number : goal.invariant-loop-number
 invariant-loop-number g l = length l.states ≡ 1000

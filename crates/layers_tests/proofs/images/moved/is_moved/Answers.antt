@@ -1,6 +1,6 @@
 use Rattle.std.proofs.Common.{arith}
-use Rattle.image_tests.proofs.Splits.{split_open, split_apart}
-use Rattle.image_tests.proofs.moved.is_moved.Goals as goal
+use Rattle.layers_tests.proofs.Splits.{split_open, split_apart}
+use Rattle.layers_tests.proofs.images.moved.is_moved.Goals as goal
 
 pub returns-clause-open : goal.returns-clause-open
 returns-clause-open c = λ _. split_open c.args.image.now.kept c.args.before.now c.args.after.now c.loop-level.level c.loop-level.invariant (omega (arith, c.loop-level-test.false))

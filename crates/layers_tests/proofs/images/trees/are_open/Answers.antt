@@ -2,7 +2,7 @@ use Rattle.std.proofs.Common.{get_or, arith}
 use Rattle.std.proofs.lemmas.Option.{slice_get-get_or}
 use Rattle.tree.proofs.Lists.{one_more}
 use Rattle.image.specs.Image.{IsOpen}
-use Rattle.image_tests.proofs.trees.are_open.Goals as goal
+use Rattle.layers_tests.proofs.images.trees.are_open.Goals as goal
 
 pub loop-block-preserved : goal.loop-block-preserved
 loop-block-preserved c = one_more (λ b. IsOpen c.args.image.now.kept b.0.0) c.args.blocks.now c.loop-block.block-index _ c.loop-block.invariant (c.is_open.ensures c.if-not-is_open.false)

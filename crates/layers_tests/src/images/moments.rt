@@ -1,7 +1,7 @@
 //! The last synced world at each moment of a step's writes.
 ghost use Rattle.std.specs.Prelude.{◌≡◌, length};
 
-use crate::paths::{TOP, fresh, is_walked, put_steps};
+use crate::images::paths::{TOP, fresh, is_walked, put_steps};
 use base::number::{BlockNo, Group};
 use image::Image;
 use std::alloc::Global;

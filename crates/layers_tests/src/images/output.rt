@@ -1,5 +1,5 @@
 //! Images as a writer gets them.
-use crate::paths::{TOP, fresh, is_walked, put_steps};
+use crate::images::paths::{TOP, fresh, is_walked, put_steps};
 use image::Image;
 use std::alloc::Global;
 use std::process::Abort;

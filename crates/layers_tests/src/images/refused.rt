@@ -1,5 +1,5 @@
 //! Memory that is refused. Each test passes whichever allocation is the one that fails.
-use crate::paths::{TOP, put_steps};
+use crate::images::paths::{TOP, put_steps};
 use base::refusal::Refusal;
 use image::Image;
 use std::alloc::Global;
