@@ -11,8 +11,8 @@ must-fail/ are tried over some 200 in one crate of three. The disk is asked for 
 toolchain. The status is 1 where something is short.
 
 With --jobs it prints how many crates `rt ci` is to prove at once, each by one process: one a processor, where 4,000 MB of memory are free for each.
-A crate that several processes prove costs up to a half more: `shared_list` took 8.3 minutes of the processors by several, and 5.1 by one. Where
-there is less memory it prints nothing, and `rt` plans for itself.
+A crate that several processes prove costs more: `shared_list` took 8.3 minutes of the processors by several, and 5.1 by one. Where there is less
+memory it prints nothing, and `rt` plans for itself.
 """
 
 import os
