@@ -16,7 +16,7 @@ from pathlib import Path
 
 ROOT = Path(__file__).resolve().parent.parent
 PROGRAMS = {
-    "Rattle": ROOT / "crates/session_workloads/out/session_workloads",
+    "Rattle": ROOT / "crates/workloads/out/workloads",
     "C": ROOT / "hosts/out/host",
     "Rust": ROOT / "hosts/out/rust/release/yuz-host",
 }

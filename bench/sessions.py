@@ -1,8 +1,8 @@
 #!/usr/bin/env python3
-"""Times the built `session_workloads`: writes by a pool alone, by one caller of a session, by four callers in threads, and by
+"""Times the built `workloads`: writes by a pool alone, by one caller of a session, by four callers in threads, and by
 four in batches of sixteen; and reads through a view by four threads, alone and beside a writer.
 
-    python3 bench/sessions.py SESSION_WORKLOADS [--calls N] [--times T]
+    python3 bench/sessions.py WORKLOADS [--calls N] [--times T]
 
 Prints, of the fastest of T runs (3 if left out) of N writes (1,000,000 if left out), the seconds and their ratio to the pool's; and of
 the fastest of T runs of N reads the seconds, less those of a run without a read, and their ratio to those without a writer.
@@ -16,11 +16,11 @@ from pathlib import Path
 
 def main():
     options = argparse.ArgumentParser(description=__doc__, formatter_class=argparse.RawDescriptionHelpFormatter)
-    options.add_argument("session_workloads", type=Path)
+    options.add_argument("workloads", type=Path)
     options.add_argument("--calls", type=int, default=1_000_000)
     options.add_argument("--times", type=int, default=3)
     options = options.parse_args()
-    program = options.session_workloads.resolve()
+    program = options.workloads.resolve()
     writes = fastest(program, ["apply", "one", "four", "batches"], options.calls, options.times)
     tell(writes, writes["apply"])
     none = fastest(program, ["views"], 0, options.times)["views"]

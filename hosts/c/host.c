@@ -3,7 +3,7 @@
  *     host session SCRIPT REPLIES     answers the lines of a script, and compares the replies
  *     host calls                      makes each call of the library, and compares what it tells
  *     host writes COUNT               writes so many blocks of 512 bytes, and prints the seconds and the resident kilobytes before and after
- *     host apply COUNT                writes as many and does nothing else, as `session_workloads apply`: bench/hosts.py times it
+ *     host apply COUNT                writes as many and does nothing else, as `workloads apply`: bench/hosts.py times it
  *     host streams                    sends a snapshot from one pool by pieces, and receives it in another
  *     host memory                     refuses each request for memory of each call in turn
  *     host mistakes                   makes each mistake that a call tells
@@ -101,7 +101,7 @@ static double now(void) {
     return (double)time.tv_sec + (double)time.tv_nsec / 1e9;
 }
 
-/* The same writes as `session_workloads apply`: those with numbers next to each other are of blocks far apart. */
+/* The same writes as `workloads apply`: those with numbers next to each other are of blocks far apart. */
 static void write_numbers(yuz_pool *pool, uint64_t from, uint64_t count) {
     uint8_t block[YUZ_BLOCK_SIZE];
     for (uint64_t number = from; number < from + count; number++) {

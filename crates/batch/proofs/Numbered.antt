@@ -13,7 +13,7 @@ use Rattle.base.specs.Key.{path}
 use Rattle.base.specs.Surveys.{IsIn, AreDifferent}
 use Rattle.batch.specs.declared.findings.Claim.{Claim}
 use Rattle.batch.specs.declared.numbers.NewBlock.{NewBlock}
-use Rattle.batch.specs.declared.way.Lists.{Lists}
+use Rattle.batch.specs.declared.draft.Draft.{Draft}
 use Rattle.batch.specs.Build.{filled, is_fresh, number_for, numbers_after}
 use Rattle.batch.specs.Forecast.{kept_of}
 use Rattle.batch.specs.Numbers.{numbers, frees_from, is_young}
@@ -40,7 +40,7 @@ filled_append [] ds (t ∷ ts) us h = absurd (omega arith)
 filled_append (c ∷ cs) ds ts us h = one_filled c.key c.kept cs ds ts us (λ xs l. filled_append cs ds xs us l) (let n = sum_by-cons (λ z. cond (is_fresh z) 1 0) c cs in omega (arith, n, h))
 
 -- one claim more
-module _ (k : Key) (o : Option Dead) (cs : List Claim) (states : List BlockState) (from : ℕ) (old new : Lists) (p : IsNumbered cs states from old) where
+module _ (k : Key) (o : Option Dead) (cs : List Claim) (states : List BlockState) (from : ℕ) (old new : Draft) (p : IsNumbered cs states from old) where
   more : (next : ℕ) (fresh : List BlockNo) → length fresh ≡ count_by is_fresh (record { key = k; kept = o } ∷ []) → frees_from from states ≡ numbers fresh ++ frees_from next states
       → new.taken.items ≡ old.taken.items ++ fresh → new.made.items ≡ old.made.items ++ filled (record { key = k; kept = o } ∷ []) fresh → IsNumbered (cs ++ record { key = k; kept = o } ∷ []) states next new
   more next fresh e f t m =
@@ -70,7 +70,7 @@ module _ (k : Key) (o : Option Dead) (cs : List Claim) (states : List BlockState
       more (b.0 + 1) (b ∷ []) (ap {B = ℕ} (λ (q : Option Dead). count_by is_fresh (record { key = k; kept = q } ∷ [])) (sym e)) (frees_found states from b.0 low f l) t
       (m ∙ ap (λ (q : Option Dead). old.made.items ++ filled (record { key = k; kept = q } ∷ []) (b ∷ [])) (sym e))
 
-pub numbered_none : (states : List BlockState) (l : Lists) → l.taken.items ≡ [] → l.made.items ≡ [] → IsNumbered [] states 0 l
+pub numbered_none : (states : List BlockState) (l : Draft) → l.taken.items ≡ [] → l.made.items ≡ [] → IsNumbered [] states 0 l
 unfolding filled
 numbered_none states l t m = record {
   enough = ap length t;
@@ -83,7 +83,7 @@ different_left : {A : Type 0} (xs ys : List A) → AreDifferent (xs ++ ys) → A
 different_left [] ys h = tt
 different_left (x ∷ xs) ys h = ((λ k. h.0 (in_left xs ys x k)), different_left xs ys h.1)
 
-module _ (cs : List Claim) (states : List BlockState) (next : ℕ) (l : Lists) (p : IsNumbered cs states next l) where
+module _ (cs : List Claim) (states : List BlockState) (next : ℕ) (l : Draft) (p : IsNumbered cs states next l) where
   all_taken : count_by is_free states ≡ count_by is_fresh cs + length (frees_from next states)
   unfolding frees_from
   all_taken =
@@ -113,7 +113,7 @@ unfolding way_claims
 way_length y leaf blocks h = length-map (zip (path leaf) blocks) _ ∙ length-zip (path leaf) blocks ∙ ap (min 6) h
 
 -- where the Free numbers have run out
-pub way_short : (y leaf : ℕ) (blocks : List (Option Dead)) (n from : ℕ) (states : List BlockState) (l : Lists) (own : Option Dead) → n ≤ 5 → n < length blocks → own ≡ get_or blocks n None → IsNumbered (way_claims y leaf (take n blocks)) states from l → frees_from from states ≡ [] → young_one y own ≡ None
+pub way_short : (y leaf : ℕ) (blocks : List (Option Dead)) (n from : ℕ) (states : List BlockState) (l : Draft) (own : Option Dead) → n ≤ 5 → n < length blocks → own ≡ get_or blocks n None → IsNumbered (way_claims y leaf (take n blocks)) states from l → frees_from from states ≡ [] → young_one y own ≡ None
     → count_by is_free states < count_by is_fresh (way_claims y leaf blocks)
 way_short y leaf blocks n from states l own h w b p none old =
     let claim : Claim = record { key = record { level = n; index = leaf / 16 ^ n }; kept = young_one y own } in

@@ -4,7 +4,7 @@ use Rattle.std.specs.List.{flat_map, zip}
 use Rattle.base.specs.declared.number.Dead.{Dead}
 use Rattle.base.specs.Key.{path}
 use Rattle.batch.specs.declared.findings.Claim.{Claim}
-use Rattle.batch.specs.declared.way.Lists.{Lists}
+use Rattle.batch.specs.declared.draft.Draft.{Draft}
 use Rattle.batch.specs.Build.{filled, is_fresh}
 use Rattle.batch.specs.Numbers.{numbers, frees_from}
 use Rattle.batch.specs.Touch.{let_go, young_one}
@@ -19,7 +19,7 @@ unfoldable pub way_released : ℕ → List (Option Dead) → List Dead
 way_released y blocks = flat_map (let_go true true y) blocks
 
 -- these claims have their numbers, of which the Free ones are the first, in turn; the others begin at one (profile)
-pub record IsNumbered (cs : List Claim) (states : List BlockState) (next : ℕ) (l : Lists) : Type 0 where
+pub record IsNumbered (cs : List Claim) (states : List BlockState) (next : ℕ) (l : Draft) : Type 0 where
   pub enough : length l.taken.items ≡ count_by is_fresh cs
   pub free : frees_from 0 states ≡ numbers l.taken.items ++ frees_from next states
   pub made : l.made.items ≡ filled cs l.taken.items

@@ -1,7 +1,6 @@
 //! What a batch of changes does to a tree, found out before any node is made.
-ghost use Rattle.std.specs.Prelude.{◌≡◌, ℕ, suc, ◌+◌, ◌-◌, ◌*◌, ◌/◌, ◌^◌, ◌<◌, ◌≤◌, ◌++◌, ◌⊎◌, IfOk, OnOk, OnErr, IsTrue, Option, Some, None, true, false, slice_index_or, take, length, is_some, cond, if◌then◌else◌};
+ghost use Rattle.std.specs.Prelude.{◌≡◌, ℕ, suc, ◌+◌, ◌-◌, ◌*◌, ◌/◌, ◌^◌, ◌<◌, ◌≤◌, ◌++◌, ◌⊎◌, IfOk, OnOk, IsTrue, Option, Some, None, true, false, slice_index_or, take, length, is_some, cond, if◌then◌else◌};
 ghost use Rattle.base.specs.Counting.{counted};
-ghost use Rattle.base.specs.declared.refusal.Refusal.{Refusal};
 ghost use Rattle.node.specs.Kid.{IsSoundKid, places_of};
 ghost use Rattle.node.specs.Node.{inner_part, leaf_part, root_part, part_of_node, whole};
 ghost use Rattle.batch.specs.Others.{HasOther};
@@ -12,9 +11,8 @@ ghost use Rattle.batch.specs.Way.{way_claims, way_released};
 use crate::update::{Update, Word, is_idle, split_at_leaf, way_of, word_of};
 use base::meter::Meter;
 use base::number::{Dead, Group, Key};
-use base::refusal::Refusal;
 use node::{Inner, Leaf, Level, Root, span};
-use std::alloc::Global;
+use std::alloc::{AllocError, Global};
 use std::sync::Arc;
 
 /// A key for which a batch makes a block. `kept` is the key's present block, where the new one keeps its number.
@@ -61,10 +59,9 @@ fn close(
     fate: Fate,
     young: Group,
     findings: &mut Findings,
-) -> Result<(), Refusal>
+) -> Result<(), AllocError>
     ensures claims { OnOk result (findings.new.claims.items ≡ findings.old.claims.items ++ claim_of fate.touched fate.stays key young.0 own) }
     ensures released { OnOk result (findings.new.released.items ≡ findings.old.released.items ++ let_go fate.touched fate.stays young.0 own) }
-    ensures err { OnErr result (result ≡ Err Refusal.NoMemory) }
 {
     if !fate.touched {
         return Ok(());
@@ -133,7 +130,7 @@ pub trait Survey: Level {
         young: Group,
         findings: &mut Findings,
         meter: &mut Meter,
-    ) -> Result<Fate, Refusal>
+    ) -> Result<Fate, AllocError>
         requires level { level ≡ Self.height }
         requires within { (index + 1) * 16 ^ level ≤ 1048576 }
         requires low { level ≤ 5 }
@@ -144,8 +141,7 @@ pub trait Survey: Level {
         ensures claims { OnOk result (findings.new.claims.items ≡ findings.old.claims.items ++ claims (said updates.now) young.0 Self.height index (part_of_node Self.part old.entry)) }
         ensures released { OnOk result (findings.new.released.items ≡ findings.old.released.items ++ released (said updates.now) young.0 Self.height index (part_of_node Self.part old.entry)) }
         ensures metered { OnOk result (counted meter.old (length (dropped (said updates.now) young.0 Self.height index (part_of_node Self.part old.entry))) ≤ meter.new) }
-        ensures never_lower { meter.old ≤ meter.new }
-        ensures err { OnErr result (result ≡ Err Refusal.NoMemory) };
+        ensures never_lower { meter.old ≤ meter.new };
 
     /// Sets `blocks` to the present blocks of the keys on the path to a leaf, indexed by level, from this node's level down. It reaches only the
     /// nodes on the path, one for each level. The meter rises by at least one for each block.
@@ -211,7 +207,7 @@ impl Survey for Leaf {
         young: Group,
         findings: &mut Findings,
         meter: &mut Meter,
-    ) -> Result<Fate, Refusal> {
+    ) -> Result<Fate, AllocError> {
         let present = old.is_some();
         if is_idle(updates, present) {
             return Ok(Fate {
@@ -246,7 +242,7 @@ fn survey_kids<C: Survey>(
     young: Group,
     findings: &mut Findings,
     meter: &mut Meter,
-) -> Result<Fate, Refusal>
+) -> Result<Fate, AllocError>
     requires level { level ≡ C.height }
     requires within { (first + 16) * 16 ^ level ≤ 1048576 }
     requires low { level ≤ 5 }
@@ -258,7 +254,6 @@ fn survey_kids<C: Survey>(
     ensures released { OnOk result (findings.new.released.items ≡ findings.old.released.items ++ later_first (released (said updates.now) young.0 C.height) first (places_of (part_of_node (inner_part C.part) old.entry))) }
     ensures metered { OnOk result (counted meter.old (length (later_first (dropped (said updates.now) young.0 C.height) first (places_of (part_of_node (inner_part C.part) old.entry)))) ≤ meter.new) }
     ensures never_lower { meter.old ≤ meter.new }
-    ensures err { OnErr result (result ≡ Err Refusal.NoMemory) }
 {
     let mut touched = false;
     let mut stays = false;
@@ -302,7 +297,7 @@ fn survey_below<C: Survey>(
     young: Group,
     findings: &mut Findings,
     meter: &mut Meter,
-) -> Result<Fate, Refusal>
+) -> Result<Fate, AllocError>
     requires level { level ≡ suc C.height }
     requires within { (index + 1) * 16 ^ level ≤ 1048576 }
     requires low { level ≤ 5 }
@@ -314,7 +309,6 @@ fn survey_below<C: Survey>(
     ensures released { OnOk result (findings.new.released.items ≡ findings.old.released.items ++ later_first (released (said updates.now) young.0 C.height) (16 * index) (places_of (part_of_node (inner_part C.part) old.entry))) }
     ensures metered { OnOk result (counted meter.old (length (later_first (dropped (said updates.now) young.0 C.height) (16 * index) (places_of (part_of_node (inner_part C.part) old.entry)))) ≤ meter.new) }
     ensures never_lower { meter.old ≤ meter.new }
-    ensures err { OnErr result (result ≡ Err Refusal.NoMemory) }
 {
     let first = 16 * index;
     let Some(way) = way_of(updates, level, index) else {
@@ -346,7 +340,7 @@ impl<C: Survey> Survey for Inner<C> {
         young: Group,
         findings: &mut Findings,
         meter: &mut Meter,
-    ) -> Result<Fate, Refusal> {
+    ) -> Result<Fate, AllocError> {
         let present = old.is_some();
         if is_idle(updates, present) {
             return Ok(Fate {
@@ -395,7 +389,7 @@ pub(crate) fn findings_of(
     room: usize,
     young: Group,
     meter: &mut Meter,
-) -> Result<(Findings, bool), Refusal>
+) -> Result<(Findings, bool), AllocError>
     requires order { AreInOrder updates.now }
     requires sound { IsSoundKid 5 (whole root.now) }
     ensures touched { IfOk result (λ p. p.1 ≡ touched (said updates.now) 5 0 (whole root.now)) }
@@ -403,7 +397,6 @@ pub(crate) fn findings_of(
     ensures released { IfOk result (λ p. p.0.released.items ≡ released (said updates.now) young.0 5 0 (whole root.now)) }
     ensures metered { OnOk result (counted meter.old (length (dropped (said updates.now) young.0 5 0 (whole root.now))) ≤ meter.new) }
     ensures never_lower { meter.old ≤ meter.new }
-    ensures err { OnErr result (result ≡ Err Refusal.NoMemory) }
 {
     let mut findings = Findings {
         claims: Vec::with_capacity(alloc, room)?,

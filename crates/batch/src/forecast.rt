@@ -1,6 +1,5 @@
 //! What a batch of changes would drop and make, before any number is chosen.
-ghost use Rattle.std.specs.Prelude.{◌≡◌, ◌≤◌, ◌++◌, ℕ, IfOk, OnOk, OnErr};
-ghost use Rattle.base.specs.declared.refusal.Refusal.{Refusal};
+ghost use Rattle.std.specs.Prelude.{◌≡◌, ◌≤◌, ◌++◌, ℕ, IfOk, OnOk};
 ghost use Rattle.batch.specs.Cost.{CountsDropped};
 ghost use Rattle.batch.specs.Forecast.{kept_of, IsForecast};
 ghost use Rattle.batch.specs.Updates.{changes_of, IsBatch};
@@ -13,9 +12,8 @@ use crate::update::{Update, write_count};
 use crate::way::{WAY, present, way_of_write};
 use base::meter::Meter;
 use base::number::{Dead, Group};
-use base::refusal::Refusal;
 use node::Root;
-use std::alloc::Global;
+use std::alloc::{AllocError, Global};
 use std::sync::Arc;
 
 /// What a change would do: `dropped` are the present blocks of the keys that it touches, and `made` is how many blocks it would make.
@@ -26,9 +24,8 @@ pub struct Forecast {
 }
 
 /// Adds the blocks that claims keep in place.
-fn add_kept(claims: &[Claim], dropped: &mut Vec<Dead>) -> Result<(), Refusal>
-    ensures ok { OnOk result (dropped.new.items ≡ dropped.old.items ++ kept_of claims.now) }
-    ensures err { OnErr result (result ≡ Err Refusal.NoMemory) }
+fn add_kept(claims: &[Claim], dropped: &mut Vec<Dead>) -> Result<(), AllocError>
+    ensures { OnOk result (dropped.new.items ≡ dropped.old.items ++ kept_of claims.now) }
 {
     for claim in claims {
         if let Some(dead) = claim.kept {
@@ -38,18 +35,17 @@ fn add_kept(claims: &[Claim], dropped: &mut Vec<Dead>) -> Result<(), Refusal>
     Ok(())
 }
 
-/// What a batch would do to a tree. NoMemory where there is none for the lists. It costs the nodes on the paths to the changes, each with its
+/// What a batch would do to a tree. It costs the nodes on the paths to the changes, each with its
 /// sixteen places. The meter counts these nodes: it rises by at least one for each block that the change drops, and at `Err` is never lower.
 pub fn forecast_of(
     alloc: Global,
     root: &Option<Arc<Root>>,
     updates: &[Update],
     meter: &mut Meter,
-) -> Result<Forecast, Refusal>
+) -> Result<Forecast, AllocError>
     requires sound { (count : ℕ) × IsSoundTree root.now count }
     requires batch { IsBatch updates.now }
     ensures ok { IfOk result (IsForecast (map_of (root_forest root.now)) (changes_of updates.now)) }
-    ensures err { OnErr result (result ≡ Err Refusal.NoMemory) }
     ensures metered { OnOk result (CountsDropped (map_of (root_forest root.now)) (changes_of updates.now) meter.old meter.new) }
     ensures never_lower { meter.old ≤ meter.new }
 {

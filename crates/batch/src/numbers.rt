@@ -1,5 +1,5 @@
 //! The numbers of new blocks.
-ghost use Rattle.std.specs.Prelude.{◌≡◌, ℕ, ◌+◌, ◌-◌, ◌<◌, ◌≤◌, ◌++◌, IfOk, IfErr, OnOk, OnErr, length, map, filter, take, slice_get, count_by, Some};
+ghost use Rattle.std.specs.Prelude.{◌≡◌, ℕ, ◌+◌, ◌-◌, ◌<◌, ◌≤◌, ◌++◌, IfOk, IfErr, OnOk, length, map, filter, take, slice_get, count_by, Some};
 ghost use Rattle.base.specs.Surveys.{IsIn, AreDifferent};
 ghost use Rattle.base.specs.declared.refusal.Refusal.{Refusal};
 ghost use Rattle.batch.specs.Build.{is_fresh, filled};
@@ -11,7 +11,7 @@ ghost use Rattle.zalloc.specs.declared.BlockState.TheVariants.{Free, Allocated};
 use crate::findings::Claim;
 use base::number::{BlockNo, Dead, Group, Key};
 use base::refusal::Refusal;
-use std::alloc::Global;
+use std::alloc::{AllocError, Global};
 use zalloc::Allocator;
 
 /// A new block of a change: its key and its number.
@@ -34,10 +34,9 @@ fn reuse(
     young: Group,
     need: usize,
     out: &mut Vec<BlockNo>,
-) -> Result<(), Refusal>
+) -> Result<(), AllocError>
     requires { length out.old.items ≤ need }
-    ensures ok { OnOk result (numbers out.new.items ≡ numbers out.old.items ++ take (need - length out.old.items) (young_numbers young.0 released.now)) }
-    ensures err { OnErr result (result ≡ Err Refusal.NoMemory) }
+    ensures { OnOk result (numbers out.new.items ≡ numbers out.old.items ++ take (need - length out.old.items) (young_numbers young.0 released.now)) }
 {
     for dead in released {
         if out.len() == need {
@@ -56,10 +55,9 @@ fn take_free(
     first: u32,
     need: usize,
     out: &mut Vec<BlockNo>,
-) -> Result<(), Refusal>
+) -> Result<(), AllocError>
     requires { length out.old.items ≤ need }
-    ensures ok { OnOk result (numbers out.new.items ≡ numbers out.old.items ++ take (need - length out.old.items) (frees_from first allocator.now)) }
-    ensures err { OnErr result (result ≡ Err Refusal.NoMemory) }
+    ensures { OnOk result (numbers out.new.items ≡ numbers out.old.items ++ take (need - length out.old.items) (frees_from first allocator.now)) }
 {
     let mut from = first;
     for _count in out.len()..need {
@@ -99,10 +97,9 @@ pub fn choose(
 }
 
 /// The new blocks of these claims. A claim with a kept block has that block's number, and the others have the taken numbers in order.
-pub fn fill(alloc: Global, claims: &[Claim], taken: &[BlockNo]) -> Result<Vec<NewBlock>, Refusal>
+pub fn fill(alloc: Global, claims: &[Claim], taken: &[BlockNo]) -> Result<Vec<NewBlock>, AllocError>
     requires { length taken.now ≡ count_by is_fresh claims.now }
-    ensures ok { IfOk result (λ v. v.items ≡ filled claims.now taken.now) }
-    ensures err { OnErr result (result ≡ Err Refusal.NoMemory) }
+    ensures { IfOk result (λ v. v.items ≡ filled claims.now taken.now) }
 {
     let mut out = Vec::with_capacity(alloc, claims.len())?;
     let mut next = 0;

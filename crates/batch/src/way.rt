@@ -1,5 +1,5 @@
 //! What the write of a single leaf does to the keys on the path to it.
-ghost use Rattle.std.specs.Prelude.{◌≡◌, ℕ, ◌+◌, ◌<◌, ◌≤◌, ◌++◌, IfOk, IfErr, IfSome, IfNone, OnOk, OnErr, List, [], ◌∷◌, length, count_by, true};
+ghost use Rattle.std.specs.Prelude.{◌≡◌, ℕ, ◌+◌, ◌<◌, ◌≤◌, ◌++◌, IfOk, IfErr, IfSome, IfNone, OnOk, List, [], ◌∷◌, length, count_by, true};
 ghost use Rattle.std.specs.List.{filter_map};
 ghost use Rattle.base.specs.Counting.{counted};
 ghost use Rattle.base.specs.declared.refusal.Refusal.{Refusal};
@@ -14,28 +14,21 @@ ghost use Rattle.node.specs.Kid.{IsSoundKid};
 ghost use Rattle.node.specs.Node.{root_part, whole, part_of_node};
 ghost use Rattle.zalloc.specs.States.{is_free};
 
+use crate::draft::Draft;
 use crate::findings::{Survey, if_young, root_of};
 use crate::numbers::NewBlock;
 use crate::update::{Update, one_leaf};
 use base::meter::Meter;
-use base::number::{BlockNo, Dead, Group, Key};
+use base::number::{Dead, Group, Key};
 use base::refusal::Refusal;
 use node::Root;
-use std::alloc::Global;
+use std::alloc::{AllocError, Global};
 use std::sync::Arc;
 use zalloc::Allocator;
 
 /// How many keys are on the path to a leaf: its own, and one at each of the five levels above (On-Disk Specification, chapter 3; the number is
 /// profile).
 pub(crate) const WAY: usize = 6;
-
-/// The blocks that are released, the numbers to take, and the new blocks with their numbers, from the last key to the first.
-#[derive(Drop)]
-pub(crate) struct Lists {
-    pub released: Vec<Dead>,
-    pub taken: Vec<BlockNo>,
-    pub made: Vec<NewBlock>,
-}
 
 /// If the updates are the write of a single leaf, answers that leaf, and sets `blocks` to the present blocks of the keys on the path to it,
 /// indexed by level. The meter rises by at least one for each of these blocks. None for any other updates; then `blocks` and the meter are
@@ -65,21 +58,9 @@ pub(crate) fn way_of_write(
     Some(leaf)
 }
 
-/// Adds to a list of at most one item for each key of a path. The first item reserves memory for all of them.
-fn push_of_way<T: Copy>(list: &mut Vec<T>, item: T) -> Result<(), Refusal>
-    ensures items { OnOk result (list.new.items ≡ list.old.items ++ item ∷ []) }
-    ensures err { OnErr result (result ≡ Err Refusal.NoMemory) }
-{
-    if list.is_empty() {
-        list.reserve(WAY)?;
-    }
-    list.push(item)?;
-    Ok(())
-}
-
-impl Lists {
+impl Draft {
     /// Adds a key on the path to a leaf that is written. Its new block has the number of its block `own` where that is young, and else the first
-    /// Free number from `from` on; then `own` is released. Answers the number from which to search for the next one.
+    /// Free number from `from` on; then `own` is released. Returns the number from which to search for the next one.
     fn add(
         &mut self,
         key: Key,
@@ -104,47 +85,44 @@ impl Lists {
             return Err(Refusal::NoSpace);
         };
         if let Some(dead) = own {
-            push_of_way(&mut self.released, dead)?;
+            self.released.push(dead)?;
         }
-        push_of_way(&mut self.taken, block)?;
+        self.taken.push(block)?;
         self.made.push(NewBlock { key, block })?;
         Ok(block.0 + 1)
     }
 }
 
-/// The lists for the keys on the path to a leaf that is written. `blocks` are the blocks that the keys have now, indexed by level. NoSpace where
-/// there are too few Free numbers.
+/// Adds to an empty draft the keys on the path to a leaf that is written. `blocks` are the blocks that the keys have now, indexed by level. NoSpace
+/// where there are too few Free numbers.
 pub(crate) fn number_way(
-    alloc: Global,
     blocks: &[Option<Dead>; 6],
     leaf: u32,
     young: Group,
     allocator: &Allocator,
-) -> Result<Lists, Refusal>
-    ensures numbered { IfOk result (λ lists. (next : ℕ) × IsNumbered (way_claims young.0 leaf blocks.now) allocator.now next lists) }
-    ensures released { IfOk result (λ lists. lists.released.items ≡ way_released young.0 blocks.now) }
+    draft: &mut Draft,
+) -> Result<(), Refusal>
+    requires released { draft.old.released.items ≡ [] }
+    requires taken { draft.old.taken.items ≡ [] }
+    requires made { draft.old.made.items ≡ [] }
+    ensures numbered { OnOk result ((next : ℕ) × IsNumbered (way_claims young.0 leaf blocks.now) allocator.now next draft.new) }
+    ensures released { OnOk result (draft.new.released.items ≡ way_released young.0 blocks.now) }
     ensures no_space { result ≡ Err Refusal.NoSpace → count_by is_free allocator.now < count_by is_fresh (way_claims young.0 leaf blocks.now) }
     ensures only { IfErr result IsNoSpaceOrNoMemory }
 {
-    let mut lists = Lists {
-        released: Vec::new(alloc),
-        taken: Vec::new(alloc),
-        made: Vec::with_capacity(alloc, WAY)?,
-    };
     let mut from = 0;
     let mut index = leaf;
     for level in 0..6u8 {
         let key = Key { level, index };
-        from = lists.add(key, blocks[level as usize], young, allocator, from)?;
+        from = draft.add(key, blocks[level as usize], young, allocator, from)?;
         index /= 16;
     }
-    Ok(lists)
+    Ok(())
 }
 
 /// The blocks that are present on the path to a leaf, as a list.
-pub(crate) fn present(alloc: Global, blocks: &[Option<Dead>; 6]) -> Result<Vec<Dead>, Refusal>
-    ensures ok { IfOk result (λ v. v.items ≡ filter_map (λ o. o) blocks.now) }
-    ensures err { OnErr result (result ≡ Err Refusal.NoMemory) }
+pub(crate) fn present(alloc: Global, blocks: &[Option<Dead>; 6]) -> Result<Vec<Dead>, AllocError>
+    ensures { IfOk result (λ v. v.items ≡ filter_map (λ o. o) blocks.now) }
 {
     let mut out = Vec::with_capacity(alloc, WAY)?;
     for own in blocks {

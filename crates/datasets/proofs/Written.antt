@@ -1,6 +1,6 @@
 -- A write to a live map: what it asks of the tree, and what it leaves.
 use Rattle.std.proofs.Common.{◌≡◌, ◌<◌, ◌≤◌, ◌+◌, ◌⊎◌, ◌↔◌, ℕ, true, List, [], Option, Some, None, Result, Ok, Err, refl, sym, ap, subst, ◌∙◌, inl, inr, ⊎_elim, arith}
-use Rattle.std.specs.Prelude.{IfOk, IfSome, OnOk, OnErr, max, nat_lt, slice_get}
+use Rattle.std.specs.Prelude.{IfSome, OnOk, OnErr, max, nat_lt, slice_get}
 use Rattle.std.specs.List.{filter, last_or}
 use Rattle.std.specs.Option.{option_map_or, option_and_then}
 use Rattle.std.specs.FinMap as finmap
@@ -18,7 +18,7 @@ use Rattle.zalloc.specs.declared.BlockState.TheVariants.{Free, Allocated}
 use Rattle.model.specs.World.{FileSystem, SnapId, Dataset, Live, newest_or_origin, previous_of, map_of, union_of}
 use Rattle.tree.specs.Asking.{AllowsChange}
 use Rattle.tree.specs.Change.{Shown, IsChange}
-use Rattle.tree.specs.declared.change.Changed.{Changed}
+use Rattle.batch.specs.declared.draft.Draft.{Draft}
 use Rattle.datasets.specs.Clones.{origin_at}
 use Rattle.file_system.specs.Origins.{origin_group}
 use Rattle.file_system.specs.Rows.{live_of, snaps_at, with_live}
@@ -179,21 +179,21 @@ done_not_refused done e = cc
 -- a file systems' write, as a table's
 module _ (t : Datasets) (sound : IsTable t) (name : Name)
     (us : List Update) (synced : ℕ) (states : List BlockState) (allows : AllowsWrite t us synced states) (c : Changes) (new : FileSystems) (since : ℕ) where
-  abbrev IsDone : Changed → Type 0
+  abbrev IsDone : Draft → Type 0
   IsDone = IsWritten (live_of t.file_systems name) (live_of new name) (origin_group (origin_at t.file_systems name)) (snaps_at t.file_systems name) c t.group since states
 
   to_is : (v : Shown) → live_of new name ≡ v.new → new ≡ with_live t.file_systems name (live_of new name) → new ≡ with_live t.file_systems name v.new
   to_is v e is = is ∙ ap (with_live t.file_systems name) e
 
   -- the file systems as they come, and their group
-  module _ (r : Result Changed Refusal) (ok : IfOk r (IsWritten (live_of t.file_systems name) (live_of new name) (origin_group (origin_at t.file_systems name)) (snaps_at t.file_systems name) c t.group since states))
+  module _ (r : Result (Unit {0}) Refusal) (done : Draft) (ok : OnOk r (IsDone done))
       (others : OnOk r (new ≡ with_live t.file_systems name (live_of new name))) where
-    pub has_written : IfOk r (HasWritten t (record { file_systems = new; group = t.group }) name c since states)
+    pub has_written : OnOk r (HasWritten t (record { file_systems = new; group = t.group }) name c since states done)
     has_written = at r ok others
       where
-        at : (x : Result Changed Refusal) → IfOk x IsDone → OnOk x (new ≡ with_live t.file_systems name (live_of new name))
-            → IfOk x (HasWritten t (record { file_systems = new; group = t.group }) name c since states)
-        at (Ok done) w is = record {
+        at : (x : Result (Unit {0}) Refusal) → OnOk x (IsDone done) → OnOk x (new ≡ with_live t.file_systems name (live_of new name))
+            → OnOk x (HasWritten t (record { file_systems = new; group = t.group }) name c since states done)
+        at (Ok u) w is = record {
           change = w.change;
           is = subst (λ y. IsChange (live_of t.file_systems name) c t.group y states w.change) (sym (young_is t sound name since)) w.is;
           to_is = λ i. record t { file_systems = to_is w.change w.new_is is i };
@@ -206,13 +206,13 @@ module _ (t : Datasets) (sound : IsTable t) (name : Name)
     pub kept_table : OnErr r (new ≡ t.file_systems) → ((r ≡ Err NoDataset) ↔ (get t.file_systems name ≡ None)) → IsTable (record t { file_systems = new })
     kept_table err no_dataset = at r ok others err no_dataset
       where
-        at : (x : Result Changed Refusal) → IfOk x IsDone → OnOk x (new ≡ with_live t.file_systems name (live_of new name)) → OnErr x (new ≡ t.file_systems)
+        at : (x : Result (Unit {0}) Refusal) → OnOk x (IsDone done) → OnOk x (new ≡ with_live t.file_systems name (live_of new name)) → OnErr x (new ≡ t.file_systems)
             → ((x ≡ Err NoDataset) ↔ (get t.file_systems name ≡ None)) → IsTable (record t { file_systems = new })
-        at (Ok done) w is same none = ⊎_elim
+        at (Ok u) w is same none = ⊎_elim
             (λ there.
             let late = base_is t sound name in
             subst (λ ss. IsTable (record t { file_systems = ss })) (sym (to_is w.change w.new_is is))
             (written_table t sound name us synced states allows c (young_after (origin_group (origin_at t.file_systems name)) (snaps_at t.file_systems name) since) (omega arith) w.change w.is there.0 there.1))
-            (λ gone. absurd (done_not_refused done (none.1 gone)))
+            (λ gone. absurd (done_not_refused u (none.1 gone)))
             (there_or_not t.file_systems name)
         at (Err e) w is same none = subst (λ ss. IsTable (record t { file_systems = ss })) (sym same) sound

@@ -9,7 +9,7 @@ use Rattle.batch.specs.Updates.{IsBatch}
 use Rattle.zalloc.specs.declared.BlockState.{BlockState}
 use Rattle.zalloc.specs.declared.BlockState.TheVariants.{Allocated}
 use Rattle.model.specs.World.{Live, union_of}
-use Rattle.tree.specs.declared.change.Changed.{Changed}
+use Rattle.batch.specs.declared.draft.Draft.{Draft}
 use Rattle.tree.specs.Change.{Shown, IsChange}
 use Rattle.tree.specs.ChangeParts.{made_pair}
 use Rattle.file_system.specs.Rows.{live_of, with_live}
@@ -32,7 +32,7 @@ pub record AllowsWrite (t : Datasets) (us : List Update) (synced : ℕ) (states 
 
 -- These changes of a live map are in force: it is rewritten, and of what it drops those blocks are released that were born after
 -- what stands before it, which has all others (On-Disk Specification, chapter 4: ds_deadlist_obj)
-pub record HasWritten (t u : Datasets) (name : List ℕ) (c : Changes) (synced : ℕ) (states : List BlockState) (done : Changed) : Type 0 where
+pub record HasWritten (t u : Datasets) (name : List ℕ) (c : Changes) (synced : ℕ) (states : List BlockState) (done : Draft) : Type 0 where
   pub change : Shown
   pub is : IsChange (live_of t.file_systems name) c t.group (young_of t name synced) states change
   pub to_is : u ≡ record t { file_systems = with_live t.file_systems name change.new }

@@ -52,7 +52,7 @@ use snapshots::holds::Holds;
 use std::alloc::Global;
 use std::marker::Model;
 use std::sync::Arc;
-use tree::{Changed, Update};
+use tree::{Draft, Update};
 use zalloc::Allocator;
 
 /// File systems by name. Contracts see the map from their names to them.
@@ -266,10 +266,11 @@ impl FileSystems {
         allocator: &Allocator,
         meter: &mut Meter,
         segments: &mut SegMeter,
-    ) -> Result<Changed, Refusal>
+        draft: &mut Draft,
+    ) -> Result<(), Refusal>
         requires allowed { AllowsLive (blocks (below_at self.old name.now)) (origin_group (origin_at self.old name.now)) (live_of self.old name.now) (snaps_at self.old name.now) updates.now group.0 synced.0 allocator.now }
         requires above { IfSome (get self.old name.now) (AreAbove (below_at self.old name.now)) }
-        ensures ok { IfOk result (IsWritten (live_of self.old name.now) (live_of self.new name.now) (origin_group (origin_at self.old name.now)) (snaps_at self.old name.now) (changes_of updates.now) group.0 synced.0 allocator.now) }
+        ensures ok { OnOk result (IsWritten (live_of self.old name.now) (live_of self.new name.now) (origin_group (origin_at self.old name.now)) (snaps_at self.old name.now) (changes_of updates.now) group.0 synced.0 allocator.now draft.new) }
         ensures others { OnOk result (self.new ≡ with_live self.old name.now (live_of self.new name.now)) }
         ensures room { OnOk result (HasRoom (live_of self.old name.now) (changes_of updates.now) (young_after (origin_group (origin_at self.old name.now)) (snaps_at self.old name.now) synced.0) allocator.now) }
         ensures err { OnErr result (self.new ≡ self.old) }
@@ -285,7 +286,9 @@ impl FileSystems {
         };
         self.near = place;
         let file_system = own(&mut self.rows[place], alloc)?;
-        file_system.apply(alloc, updates, group, synced, allocator, meter, segments)
+        file_system.apply(
+            alloc, updates, group, synced, allocator, meter, segments, draft,
+        )
     }
 
     /// Takes a snapshot of the live map of this file system, which becomes its newest one, as `Table::take_snapshot` says. No other snapshot may

@@ -50,7 +50,7 @@ use snapshots::holds::Holds;
 use std::alloc::Global;
 use std::marker::Model;
 use std::sync::Arc;
-use tree::{Changed, Update};
+use tree::{Draft, Update};
 use zalloc::Allocator;
 
 /// A pool has at most this many file systems, the root among them (profile).
@@ -298,9 +298,9 @@ impl Table {
         self.systems.near()
     }
 
-    /// Applies a batch of changes to the live tree of this file system at once. `synced` is the group that the last sync left open. The answer
-    /// has the numbers of the new blocks, which aren't taken from the allocator here. Of the blocks that the tree drops, it has those that no
-    /// snapshot has. NoDataset exactly where there is no file system of this name; else NoSpace exactly where the Free numbers and those of the
+    /// Applies a batch of changes to the live tree of this file system at once. `synced` is the group that the last sync left open. It leaves in
+    /// `draft` the new blocks and their numbers, which aren't taken from the allocator here. Of the blocks that the tree drops, the draft has those
+    /// that no snapshot has. NoDataset exactly where there is no file system of this name; else NoSpace exactly where the Free numbers and those of the
     /// dropped young blocks are too few; else NoMemory where there is no memory, or the snapshots would have more blocks than a u64 counts.
     /// After an error the table is as it was. It costs the logarithm of the number of file systems, and the change.
     pub fn apply_live(
@@ -312,9 +312,10 @@ impl Table {
         allocator: &Allocator,
         meter: &mut Meter,
         segments: &mut SegMeter,
-    ) -> Result<Changed, Refusal>
+        draft: &mut Draft,
+    ) -> Result<(), Refusal>
         requires { AllowsWrite self.old updates.now synced.0 allocator.now }
-        ensures ok { IfOk result (HasWritten self.old self.new name.now (changes_of updates.now) synced.0 allocator.now) }
+        ensures ok { OnOk result (HasWritten self.old self.new name.now (changes_of updates.now) synced.0 allocator.now draft.new) }
         ensures room { OnOk result (HasRoom (live_of self.old.file_systems name.now) (changes_of updates.now) (young_of self.old name.now synced.0) allocator.now) }
         ensures err { OnErr result (self.new ≡ self.old) }
         ensures no_dataset { (result ≡ Err Refusal.NoDataset) ↔ (get self.old.file_systems name.now ≡ None) }
@@ -326,7 +327,7 @@ impl Table {
     {
         let group = self.group;
         self.systems.apply_live(
-            name, alloc, updates, group, synced, allocator, meter, segments,
+            name, alloc, updates, group, synced, allocator, meter, segments, draft,
         )
     }
 

@@ -7,7 +7,7 @@ use Rattle.base.specs.Rewrite.{Changes}
 use Rattle.base.specs.Surveys.{dead_block}
 use Rattle.zalloc.specs.declared.BlockState.{BlockState}
 use Rattle.model.specs.World.{Snap}
-use Rattle.tree.specs.declared.change.Changed.{Changed}
+use Rattle.batch.specs.declared.draft.Draft.{Draft}
 use Rattle.tree.specs.Change.{Shown, IsChange}
 use Rattle.tree.specs.ChangeParts.{made_pair}
 
@@ -24,7 +24,7 @@ young_after base snaps synced = max synced (newest_group base snaps + 1)
 -- These changes of a live map are in force: it is rewritten, and of what it drops those blocks are released that were born after
 -- the newest of these snapshots, or after the group of what stands below them, which has all others (On-Disk Specification, chapter 4:
 -- ds_deadlist_obj)
-pub record IsWritten (old new : Map) (base : ℕ) (snaps : List Snap) (c : Changes) (group synced : ℕ) (states : List BlockState) (done : Changed) : Type 0 where
+pub record IsWritten (old new : Map) (base : ℕ) (snaps : List Snap) (c : Changes) (group synced : ℕ) (states : List BlockState) (done : Draft) : Type 0 where
   pub change : Shown
   pub is : IsChange old c group (young_after base snaps synced) states change
   pub new_is : new ≡ change.new

@@ -13,7 +13,7 @@ use base::refusal::Refusal;
 use deadlist::deadlist::Deadlist;
 use std::alloc::Global;
 use std::sync::Arc;
-use tree::{Changed, Draft, Tree, Update};
+use tree::{Draft, Tree, Update};
 
 /// Fewer blocks than these go onto a dead list in place.
 const FEW: usize = 64;
@@ -39,15 +39,15 @@ pub fn put(
     alloc: Global,
     updates: &[Update],
     group: Group,
-    draft: Draft,
+    draft: &mut Draft,
     newest: Group,
     meter: &mut Meter,
     segments: &mut SegMeter,
-) -> Result<Changed, Refusal>
-    requires can { CanPut live.old updates.now group.0 draft }
+) -> Result<(), Refusal>
+    requires can { CanPut live.old updates.now group.0 draft.old }
     requires plain { IsPlain (arc_value dead.old) }
-    ensures ok { IfOk result (HasPut live.old live.new updates.now group.0 draft) }
-    ensures dead { OnOk result (HasGained (arc_value dead.old).entries (arc_value dead.new).entries draft.released.items newest.0) }
+    ensures ok { OnOk result (HasPut live.old live.new updates.now group.0 draft.old draft.new) }
+    ensures dead { OnOk result (HasGained (arc_value dead.old).entries (arc_value dead.new).entries draft.old.released.items newest.0) }
     ensures plain { IsPlain (arc_value dead.new) }
     ensures err { OnErr result (live.new ≡ live.old) }
     ensures dead_err { OnErr result (IsPermutation (arc_value dead.old).entries (arc_value dead.new).entries) }
@@ -55,7 +55,7 @@ pub fn put(
     ensures never_lower { meter.old ≤ meter.new }
     ensures segments_never_lower { segments.old ≤ segments.new }
 {
-    let few = count_upto(&draft.released, newest);
+    let few = count_upto(draft.released.as_slice(), newest);
     if few == 0 {
         return live.put(alloc, updates, group, draft, meter);
     }
@@ -64,11 +64,11 @@ pub fn put(
             list, live, alloc, updates, group, draft, newest, meter, segments,
         );
     }
-    let longer = longer(dead, &draft.released, newest, segments)?;
+    let longer = longer(dead, draft.released.as_slice(), newest, segments)?;
     let longer = Arc::new(alloc, longer)?;
-    let changed = live.put(alloc, updates, group, draft, meter)?;
+    live.put(alloc, updates, group, draft, meter)?;
     *dead = longer;
-    Ok(changed)
+    Ok(())
 }
 
 // Does what `put` does, with a dead list that has no other owner.
@@ -78,15 +78,15 @@ fn put_onto(
     alloc: Global,
     updates: &[Update],
     group: Group,
-    draft: Draft,
+    draft: &mut Draft,
     newest: Group,
     meter: &mut Meter,
     segments: &mut SegMeter,
-) -> Result<Changed, Refusal>
-    requires can { CanPut live.old updates.now group.0 draft }
+) -> Result<(), Refusal>
+    requires can { CanPut live.old updates.now group.0 draft.old }
     requires plain { IsPlain list.old }
-    ensures ok { IfOk result (HasPut live.old live.new updates.now group.0 draft) }
-    ensures dead { OnOk result (HasGained list.old.entries list.new.entries draft.released.items newest.0) }
+    ensures ok { OnOk result (HasPut live.old live.new updates.now group.0 draft.old draft.new) }
+    ensures dead { OnOk result (HasGained list.old.entries list.new.entries draft.old.released.items newest.0) }
     ensures plain { IsPlain list.new }
     ensures err { OnErr result (live.new ≡ live.old) }
     ensures dead_err { OnErr result (IsPermutation list.old.entries list.new.entries) }
@@ -94,17 +94,17 @@ fn put_onto(
     ensures never_lower { meter.old ≤ meter.new }
     ensures segments_never_lower { segments.old ≤ segments.new }
 {
-    let few = count_upto(&draft.released, newest);
+    let few = count_upto(draft.released.as_slice(), newest);
     if few >= FEW {
-        let longer = longer(list, &draft.released, newest, segments)?;
-        let changed = live.put(alloc, updates, group, draft, meter)?;
+        let longer = longer(list, draft.released.as_slice(), newest, segments)?;
+        live.put(alloc, updates, group, draft, meter)?;
         *list = longer;
-        return Ok(changed);
+        return Ok(());
     }
     list.reserve(few, segments)?;
-    let changed = live.put(alloc, updates, group, draft, meter)?;
-    list.push_upto(&changed.released, newest);
-    Ok(changed)
+    live.put(alloc, updates, group, draft, meter)?;
+    list.push_upto(draft.released.as_slice(), newest);
+    Ok(())
 }
 
 // A copy of a dead list with those of the released blocks that were born no later than the group. Few of its entries wait.

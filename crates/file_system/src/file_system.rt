@@ -54,7 +54,7 @@ use std::alloc::Global;
 use std::cmp::Ordering;
 use std::marker::Model;
 use std::sync::Arc;
-use tree::{Changed, Tree, Update};
+use tree::{Draft, Tree, Update};
 use zalloc::Allocator;
 
 /// A file system: its name, its live dataset, its snapshots in order of their creation groups, its origin where it is a clone, its limits, and
@@ -510,8 +510,9 @@ impl FileSystem {
         Ok(lost)
     }
 
-    /// Applies a batch of changes to the live tree at once. `synced` is the group that the last sync left open. It takes no number from the
-    /// allocator. Of the blocks that the tree drops, it releases those that no snapshot has. The others go onto the dead list, and those of them
+    /// Applies a batch of changes to the live tree at once, and leaves in `draft` the blocks that are to be released, the numbers to take and the
+    /// new blocks. `synced` is the group that the last sync left open. It takes no number from the allocator. Of the blocks that the tree drops,
+    /// those that no snapshot has are to be released. The others go onto the dead list, and those of them
     /// that the origin doesn't have are then counted as used by the snapshots. NoSpace where there are too few numbers. NoMemory where there is
     /// none for it, or where the snapshots have more blocks than a u64 counts. After an error all is as it was. It costs what `Tree::draft` and
     /// `Tree::put` do.
@@ -524,10 +525,11 @@ impl FileSystem {
         allocator: &Allocator,
         meter: &mut Meter,
         segments: &mut SegMeter,
-    ) -> Result<Changed, Refusal>
+        draft: &mut Draft,
+    ) -> Result<(), Refusal>
         requires allowed { AllowsLive (blocks self.old.below) (origin_group self.old.system.origin) self.old.system.live self.old.system.snaps updates.now group.0 synced.0 allocator.now }
         requires above { AreAbove self.old.below self.old.system }
-        ensures ok { IfOk result (IsWritten self.old.system.live self.new.system.live (origin_group self.old.system.origin) self.old.system.snaps (changes_of updates.now) group.0 synced.0 allocator.now) }
+        ensures ok { OnOk result (IsWritten self.old.system.live self.new.system.live (origin_group self.old.system.origin) self.old.system.snaps (changes_of updates.now) group.0 synced.0 allocator.now draft.new) }
         ensures others { self.new ≡ with_system self.old (record self.old.system { live = self.new.system.live }) }
         ensures room { OnOk result (HasRoom self.old.system.live (changes_of updates.now) (young_after (origin_group self.old.system.origin) self.old.system.snaps synced.0) allocator.now) }
         ensures err { OnErr result (self.new ≡ self.old) }
@@ -539,17 +541,18 @@ impl FileSystem {
     {
         let newest = self.newest_group();
         let young = young_from(newest, synced);
-        let draft = self.live.draft(alloc, updates, young, allocator, meter)?;
+        self.live
+            .draft(alloc, updates, young, allocator, meter, draft)?;
         let base = base_group(origin_in(&self.origin));
         let nodes = self.live.node_count();
-        let rest = rest_of(self.counts, nodes, &draft.released, base, newest)?;
+        let rest = rest_of(self.counts, nodes, draft.released.as_slice(), base, newest)?;
         let (dead, live) = (&mut self.dead, &mut self.live);
-        let mut changed = put(
+        put(
             dead, live, alloc, updates, group, draft, newest, meter, segments,
         )?;
         self.counts = counts_with(rest, self.live.node_count());
-        changed.released.retain(|dead| is_born_after(dead, newest));
-        Ok(changed)
+        draft.released.retain(|dead| is_born_after(dead, newest));
+        Ok(())
     }
 }
 

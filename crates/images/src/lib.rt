@@ -11,4 +11,4 @@ mod writes;
 pub use contents::Contents;
 pub use laws::root_laws;
 pub use roots::{DatasetRoot, roots_of};
-pub use writes::{ChangedPath, Writes, blocks_in, path_before, write_down, writes_after};
+pub use writes::{ChangedPath, Writes, blocks_in, write_down, writes_after};

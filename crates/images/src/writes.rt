@@ -29,6 +29,29 @@ pub struct ChangedPath {
     pub after: [Option<Root>; 6],
 }
 
+impl ChangedPath {
+    /// A path to leaf 0 without a block.
+    pub fn new() -> ChangedPath {
+        ChangedPath {
+            leaf: 0,
+            before: [None; 6],
+            after: [None; 6],
+        }
+    }
+
+    /// Becomes the path that an update of a live tree will change, read before the update is applied. It costs the logarithm of the number of file
+    /// systems, and the path.
+    pub fn begin(&mut self, table: &Table, name: &DsName, update: &Update, meter: &mut Meter)
+        requires { IsOfTree update.now }
+        ensures begun { IsBegun update.now self.new }
+        ensures path { IsPathOf (live_of table.now.file_systems name.now) (first_of update.now) (block_on self.new.before) }
+        ensures never_lower { meter.old ≤ meter.new }
+    {
+        self.leaf = first_leaf(update);
+        self.before = path_in(table, name, self.leaf, meter);
+    }
+}
+
 /// The blocks that a change of a live map writes into the image.
 #[derive(Drop)]
 pub enum Writes<'a> {
@@ -125,33 +148,6 @@ fn bytes_of<'a>(update: &Update<'a>) -> Contents<'a>
     }
 }
 
-/// The path that an update of a live tree will change, read before the update is applied. NoMemory where the path can't be allocated. It takes
-/// 296 bytes, and costs the logarithm of the number of file systems, and the path.
-pub fn path_before(
-    alloc: Global,
-    table: &Table,
-    name: &DsName,
-    update: &Update,
-    meter: &mut Meter,
-) -> Result<Box<ChangedPath>, Refusal>
-    requires { IsOfTree update.now }
-    ensures begun { IfOk result (λ p. IsBegun update.now p.value) }
-    ensures path { IfOk result (λ p. IsPathOf (live_of table.now.file_systems name.now) (first_of update.now) (block_on p.value.before)) }
-    ensures err { IfErr result (λ e. e ≡ Refusal.NoMemory) }
-    ensures never_lower { meter.old ≤ meter.new }
-{
-    let leaf = first_leaf(update);
-    let path = ChangedPath {
-        leaf,
-        before: path_in(table, name, leaf, meter),
-        after: [None; 6],
-    };
-    match Box::new(alloc, path) {
-        Ok(path) => Ok(path),
-        Err(_) => Err(Refusal::NoMemory),
-    }
-}
-
 // Sets the path to the new blocks of a group, each at its level; each level without a new block becomes None. It costs the number of new blocks.
 fn place(path: &mut [Option<Root>; 6], made: &[NewBlock], group: Group)
     ensures { ArePlaced group.0 made.now (block_on path.new) }
@@ -169,7 +165,7 @@ fn place(path: &mut [Option<Root>; 6], made: &[NewBlock], group: Group)
 }
 
 /// The blocks that an update of a live tree writes into the image, once the update is applied in this group. `path` is the path that it was to
-/// change, from `path_before`, and `made` are the new blocks that it has made. It reaches no node, and costs the new blocks.
+/// change, from `ChangedPath::begin`, and `made` are the new blocks that it has made. It reaches no node, and costs the new blocks.
 pub fn writes_after<'a>(
     group: Group,
     update: &Update<'a>,

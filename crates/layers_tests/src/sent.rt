@@ -6,7 +6,7 @@ use sends::{records, stream_bytes};
 use std::alloc::Global;
 use std::process::Abort;
 use stream::Record;
-use tree::{Tree, Update};
+use tree::{Draft, Tree, Update};
 use tree_tests::ready::{is_batch, is_ready, meter};
 use zalloc::{Allocator, BlockState};
 
@@ -51,9 +51,10 @@ fn put(
     if !is_batch(updates) || !is_ready(alloc, tree, numbers, group)? {
         return Err(Refusal::BadKey);
     }
-    let draft = tree.draft(alloc, updates, group, numbers, &mut meter())?;
-    let done = tree.put(alloc, updates, group, draft, &mut meter())?;
-    take(numbers, &done.taken)
+    let mut draft = Draft::new(alloc);
+    tree.draft(alloc, updates, group, numbers, &mut meter(), &mut draft)?;
+    tree.put(alloc, updates, group, &mut draft, &mut meter())?;
+    take(numbers, draft.taken.as_slice())
 }
 
 impl Rig {

@@ -12,7 +12,7 @@ use deadlist::deadlist::Deadlist;
 use destroyer::{Freeing, Slice};
 use std::alloc::Global;
 use std::sync::Arc;
-use tree::{Subtree, Tree, Update};
+use tree::{Draft, Subtree, Tree, Update};
 use tree_tests::ready::{is_batch, is_ready, meter, segment_meter};
 use zalloc::{Allocator, BlockState};
 
@@ -62,9 +62,10 @@ fn are_put(
     if !is_batch(updates) || !is_ready(alloc, tree, numbers, group)? {
         return Ok(false);
     }
-    let draft = tree.draft(alloc, updates, group, numbers, &mut meter())?;
-    let done = tree.put(alloc, updates, group, draft, &mut meter())?;
-    Ok(are_taken(numbers, &done.taken))
+    let mut draft = Draft::new(alloc);
+    tree.draft(alloc, updates, group, numbers, &mut meter(), &mut draft)?;
+    tree.put(alloc, updates, group, &mut draft, &mut meter())?;
+    Ok(are_taken(numbers, draft.taken.as_slice()))
 }
 
 /// Writes a leaf.

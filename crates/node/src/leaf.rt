@@ -5,7 +5,7 @@ use crate::cell::Cell;
 use crate::node::{Level, dead, reach};
 use base::meter::Meter;
 use base::number::{BlockNo, Dead, Group};
-use base::refusal::Refusal;
+use std::alloc::AllocError;
 
 /// A data block.
 #[derive(Drop)]
@@ -53,7 +53,7 @@ impl Level for Leaf {
     }
 
     #[tactic(auto, unfolding(crate::specs::Walk::born_after, base::specs::Counting::counted, base::specs::Counting::most))]
-    fn gather(&self, cut: Group, out: &mut Vec<Dead>, meter: &mut Meter) -> Result<(), Refusal> {
+    fn gather(&self, cut: Group, out: &mut Vec<Dead>, meter: &mut Meter) -> Result<(), AllocError> {
         reach(meter);
         if self.birth.0 > cut.0 {
             out.push(self.block())?;

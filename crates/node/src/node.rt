@@ -1,9 +1,8 @@
 //! The nodes, one type for each level.
-ghost use Rattle.std.specs.Prelude.{◌≡◌, ℕ, ◌<◌, ◌≤◌, ◌+◌, ◌*◌, ◌/◌, ◌%◌, ◌-◌, ◌^◌, Option, Some, None, suc, OnOk, OnErr, ◌++◌, length, slice_index_or, map};
+ghost use Rattle.std.specs.Prelude.{◌≡◌, ℕ, ◌<◌, ◌≤◌, ◌+◌, ◌*◌, ◌/◌, ◌%◌, ◌-◌, ◌^◌, Option, Some, None, suc, OnOk, ◌++◌, length, slice_index_or, map};
 ghost use Rattle.std.specs.Option.{option_map};
 ghost use Rattle.base.specs.Counting.{counted};
 ghost use Rattle.base.specs.Surveys.{dead_block};
-ghost use Rattle.base.specs.declared.refusal.Refusal.{Refusal};
 ghost use Rattle.node.specs.Shape.{Part, cell_below, steps_below};
 ghost use Rattle.node.specs.Cells.{cell_of, dead_of};
 ghost use Rattle.node.specs.Kid.{IsSound};
@@ -15,7 +14,7 @@ use crate::leaf::Leaf;
 use crate::pair::{Pair, kid_at, place_count, read_counts};
 use base::meter::Meter;
 use base::number::{BlockNo, Dead, Group};
-use base::refusal::Refusal;
+use std::alloc::AllocError;
 use std::sync::Arc;
 
 /// A node of one level, with the nodes below it.
@@ -42,14 +41,12 @@ pub trait Level {
         ensures { result ≡ dead_of (part self.now).cell };
 
     /// Adds to `out` the blocks of this part of the tree that were born after group `cut`, each before the blocks below it. Below a block that
-    /// wasn't born after it, nothing is visited. The meter rises by at least one for each block that is added. NoMemory where there is none for
-    /// `out`.
-    fn gather(&self, cut: Group, out: &mut Vec<Dead>, meter: &mut Meter) -> Result<(), Refusal>
+    /// wasn't born after it, nothing is visited. The meter rises by at least one for each block that is added.
+    fn gather(&self, cut: Group, out: &mut Vec<Dead>, meter: &mut Meter) -> Result<(), AllocError>
         requires sound { IsSound height (part self.now) }
         ensures gathered { OnOk result (map dead_block out.new.items ≡ map dead_block out.old.items ++ born_after cut.0 (part_blocks (part self.now))) }
         ensures metered { OnOk result (counted meter.old (length (born_after cut.0 (part_blocks (part self.now)))) ≤ meter.new) }
-        ensures never_lower { meter.old ≤ meter.new }
-        ensures err { OnErr result (result ≡ Err Refusal.NoMemory) };
+        ensures never_lower { meter.old ≤ meter.new };
 }
 
 /// A block by its number and birth.
@@ -183,7 +180,7 @@ impl<C: Level> Level for Inner<C> {
         dead(self.block, self.birth)
     }
 
-    fn gather(&self, cut: Group, out: &mut Vec<Dead>, meter: &mut Meter) -> Result<(), Refusal> {
+    fn gather(&self, cut: Group, out: &mut Vec<Dead>, meter: &mut Meter) -> Result<(), AllocError> {
         reach(meter);
         if self.birth.0 <= cut.0 {
             return Ok(());

@@ -1,11 +1,10 @@
 //! Owners of shared nodes.
-ghost use Rattle.std.specs.Prelude.{◌≡◌, ◌<◌, IfOk, OnErr, None, slice_index_or, length};
-ghost use Rattle.base.specs.declared.refusal.Refusal.{Refusal};
+ghost use Rattle.std.specs.Prelude.{◌≡◌, ◌<◌, IfOk, None, slice_index_or, length};
 ghost use Rattle.node.specs.Kid.{places_of};
 ghost use Rattle.node.specs.Node.{inner_part, part_of_owner, part_of_slot};
 
 use crate::node::{Inner, Level};
-use base::refusal::Refusal;
+use std::alloc::AllocError;
 use std::sync::Arc;
 
 /// The owner in a place, borrowed.
@@ -18,10 +17,9 @@ pub fn owner_in<C: Level>(slot: &Option<Arc<C>>) -> Option<&Arc<C>>
     }
 }
 
-/// One more owner of the same node, or None where there is none. NoMemory where there is none for it.
-pub fn keep<C: Level>(old: Option<&Arc<C>>) -> Result<Option<Arc<C>>, Refusal>
-    ensures ok { IfOk result (λ r. part_of_slot C.part r ≡ part_of_owner C.part old.entry) }
-    ensures err { OnErr result (result ≡ Err Refusal.NoMemory) }
+/// One more owner of the same node, or None where there is none.
+pub fn keep<C: Level>(old: Option<&Arc<C>>) -> Result<Option<Arc<C>>, AllocError>
+    ensures { IfOk result (λ r. part_of_slot C.part r ≡ part_of_owner C.part old.entry) }
 {
     match old {
         Some(a) => Ok(Some(Arc::try_clone(a)?)),

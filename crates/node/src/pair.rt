@@ -1,12 +1,11 @@
 //! The places of a node, in pairs.
-ghost use Rattle.std.specs.Prelude.{◌≡◌, ◌%◌, ◌<◌, IfOk, OnErr, None, length, replicate, slice_index_or, slice_set};
+ghost use Rattle.std.specs.Prelude.{◌≡◌, ◌%◌, ◌<◌, IfOk, None, length, replicate, slice_index_or, slice_set};
 ghost use Rattle.std.specs.Option.{option_map};
-ghost use Rattle.base.specs.declared.refusal.Refusal.{Refusal};
 ghost use Rattle.node.specs.Node.{part_of_slot};
 ghost use Rattle.node.specs.Pairs.{left_of, right_of, side_of, places_in};
 
 use crate::node::Level;
-use base::refusal::Refusal;
+use std::alloc::AllocError;
 use std::mem;
 use std::sync::Arc;
 
@@ -67,11 +66,10 @@ impl<C> Pair<C> {
 }
 
 impl<C: Level + Drop> Pair<C> {
-    /// A pair that shares the same nodes, by one more owner of each. NoMemory where there is none for one.
-    pub fn copy(&self) -> Result<Pair<C>, Refusal>
+    /// A pair that shares the same nodes, by one more owner of each.
+    pub fn copy(&self) -> Result<Pair<C>, AllocError>
         ensures left { IfOk result (λ p. part_of_slot C.part (left_of p) ≡ part_of_slot C.part (left_of self.now)) }
         ensures right { IfOk result (λ p. part_of_slot C.part (right_of p) ≡ part_of_slot C.part (right_of self.now)) }
-        ensures err { OnErr result (result ≡ Err Refusal.NoMemory) }
     {
         match self {
             Pair::Neither => Ok(Pair::Neither),

@@ -1,6 +1,6 @@
 -- A change of a live map, from the update that a request asks for to the step.
 use Rattle.std.proofs.Common.{◌≡◌, ◌⊎◌, ◌↔◌, ℕ, true, false, List, Option, Result, Ok, Err, Some, None, refl, sym, ap, subst, ◌∙◌, [], ◌∷◌, map, ⊎_elim}
-use Rattle.std.specs.Prelude.{IfOk, IfErr, OnOk, is_some, IsSome}
+use Rattle.std.specs.Prelude.{IfErr, OnOk, is_some, IsSome}
 use Rattle.std.specs.FinMap.{get}
 use Rattle.base.specs.declared.name.target.Target.{Target}
 use Rattle.base.specs.declared.name.target.Target.TheVariants.{FileSystem as OfFileSystem}
@@ -15,7 +15,7 @@ use Rattle.image.specs.PathWrites.{block_on}
 use Rattle.tree.specs.declared.block.Root.{Root}
 use Rattle.tree.specs.Updates.{changes_of}
 use Rattle.tree.specs.Change.{HasRoom, LacksRoom}
-use Rattle.tree.specs.declared.change.Changed.{Changed}
+use Rattle.batch.specs.declared.draft.Draft.{Draft}
 use Rattle.model.specs.World.{FileSystem}
 use Rattle.model.specs.declared.request.Request.{Request}
 use Rattle.model.specs.declared.reply.Reply.TheVariants.{Done, Refused}
@@ -36,11 +36,12 @@ use Rattle.steps.proofs.numbers.Putting.{release_them, take_them}
 use Rattle.steps.proofs.asked.Settled.{can_settle}
 use Rattle.steps.proofs.requests.Writing.{IsThere, there_or, allows, written_can, written_can_within, written_unlimited, written_done, written_done_within, write_refused, write_refused_within, write_refused_by_limit}
 use Rattle.pool.specs.Asked.{Asks}
-use Rattle.pool.specs.Effects.{MaySettle}
 use Rattle.pool.specs.Images.{LeadsTo}
-use Rattle.images.specs.Writes.{IsPathOf, IsLeftBy}
+use Rattle.images.specs.Writes.{IsPathOf, IsLeftBy, MayWrite}
+use Rattle.pool.specs.Numbers.{synced_numbers}
+use Rattle.steps.specs.Settles.{AllAllocated, releases}
+use Rattle.tree.specs.Taking.{AllFree}
 use Rattle.pool.specs.Pools.{IsSound}
-use Rattle.pool.specs.declared.effect.Effect.TheVariants.{Blocks}
 use Rattle.images.specs.declared.writes.Writes.{Writes}
 use Rattle.pool.proofs.OneUpdate.{update_may, update_leads}
 
@@ -49,12 +50,12 @@ abbrev update_error : Refusal → Result Update Refusal
 update_error why = Err why
 
 -- a change that the table refuses
-abbrev table_error : Refusal → Result Changed Refusal
+abbrev table_error : Refusal → Result (Unit {0}) Refusal
 table_error why = Err why
 
 -- what the table answers to a change, between the datasets before and after
-pub record IsApplied (old new : Datasets) (name : List ℕ) (us : List Update) (synced : ℕ) (numbers : List BlockState) (r : Result Changed Refusal) : Type 0 where
-  pub ok : IfOk r (λ done. HasWritten old new name (changes_of us) synced numbers done)
+pub record IsApplied (old new : Datasets) (name : List ℕ) (us : List Update) (synced : ℕ) (numbers : List BlockState) (done : Draft) (r : Result (Unit {0}) Refusal) : Type 0 where
+  pub ok : OnOk r (HasWritten old new name (changes_of us) synced numbers done)
   pub room : OnOk r (HasRoom (live_of old.file_systems name) (changes_of us) (young_of old name synced) numbers)
   pub no_dataset : (r ≡ table_error NoDataset) ↔ (get old.file_systems name ≡ None)
   pub no_space : r ≡ table_error NoSpace → LacksRoom (live_of old.file_systems name) (changes_of us) (young_of old name synced) numbers
@@ -123,13 +124,13 @@ module _ (s : State) (numbers : List BlockState) (sound : IsSound s numbers) whe
   -- ---- what the table answers
 
   module _ (synced : ℕ) (since : synced ≡ s.last.group) (name : List ℕ) (new : Datasets) (u : Update) (us : List Update) (one : us ≡ u ∷ []) (may : MayChange s name (changes_of (u ∷ []))) where
-    here : (r : Result Changed Refusal) → IsApplied (datasets_of s) new name us synced numbers r → IsApplied (datasets_of s) new name (u ∷ []) s.last.group numbers r
-    here r applied = subst (λ g. IsApplied (datasets_of s) new name (u ∷ []) g numbers r) since (subst (λ xs. IsApplied (datasets_of s) new name xs synced numbers r) one applied)
+    here : (done : Draft) (r : Result (Unit {0}) Refusal) → IsApplied (datasets_of s) new name us synced numbers done r → IsApplied (datasets_of s) new name (u ∷ []) s.last.group numbers done r
+    here done r applied = subst (λ g. IsApplied (datasets_of s) new name (u ∷ []) g numbers done r) since (subst (λ xs. IsApplied (datasets_of s) new name xs synced numbers done r) one applied)
 
     -- a change that the table has refused
-    pub refused_now : (why : Refusal) → IsApplied (datasets_of s) new name us synced numbers (Err why) → (q : Request) → Asks q (OfFileSystem name) (Ok u) → Step s q (Refused why) s
-    refused_now why applied q asks =
-        let refusal = here (Err why) applied in
+    pub refused_now : (why : Refusal) (done : Draft) → IsApplied (datasets_of s) new name us synced numbers done (Err why) → (q : Request) → Asks q (OfFileSystem name) (Ok u) → Step s q (Refused why) s
+    refused_now why done applied q asks =
+        let refusal = here done (Err why) applied in
         let is = rule q name u asks in
         let in_range = within q name u asks in
         let tells : (why ≡ NoDataset) ↔ (get s.now.file_systems name ≡ None) = (λ e. refusal.no_dataset.0 (ap Err e), λ none. told (refusal.no_dataset.1 none)) in
@@ -144,27 +145,27 @@ module _ (s : State) (numbers : List BlockState) (sound : IsSound s numbers) whe
         told e = cc
 
     -- a change that the table has put in force
-    module _ (done : Changed) (applied : IsApplied (datasets_of s) new name us synced numbers (Ok done)) where
+    module _ (done : Draft) (applied : IsApplied (datasets_of s) new name us synced numbers done (Ok tt)) where
       there : get s.now.file_systems name ≡ None → ⊥
-      there none = other ((here (Ok done) applied).no_dataset.1 none)
+      there none = other ((here done (Ok tt) applied).no_dataset.1 none)
         where
-          other : Ok done ≡ table_error NoDataset → ⊥
+          other : Ok tt ≡ table_error NoDataset → ⊥
           other e = cc
 
       -- the new datasets can be put in place
       pub can_now : CanChange s new (map dead_block done.released.items) (map (λ n. n.0) done.taken.items)
       can_now = ⊎_elim
-          (λ bare. written_can s sound.steady bare numbers sound.states name new (changes_of (u ∷ [])) done (here (Ok done) applied).ok there)
-          (λ fits. written_can_within s sound.steady numbers sound.states name new (changes_of (u ∷ [])) done (here (Ok done) applied).ok fits there)
+          (λ bare. written_can s sound.steady bare numbers sound.states name new (changes_of (u ∷ [])) done (here done (Ok tt) applied).ok there)
+          (λ fits. written_can_within s sound.steady numbers sound.states name new (changes_of (u ∷ [])) done (here done (Ok tt) applied).ok fits there)
           may
 
       pub stays_now : StaysUnlimited s new
-      stays_now = written_unlimited s numbers name new (changes_of (u ∷ [])) done (here (Ok done) applied).ok
+      stays_now = written_unlimited s numbers name new (changes_of (u ∷ [])) done (here done (Ok tt) applied).ok
 
       -- the ledger that is kept can be settled
       pub settles_now : (lines : Option (List Line)) → IsAccounted (datasets_of s) lines → (outlook : Option Outlook)
           → Foretells s name (changes_of (u ∷ [])) outlook → CanSettle (datasets_of s) new name lines outlook
-      settles_now = can_settle s sound.steady numbers sound.states name (changes_of (u ∷ [])) new done (here (Ok done) applied).ok can_now.steady there
+      settles_now = can_settle s sound.steady numbers sound.states name (changes_of (u ∷ [])) new done (here done (Ok tt) applied).ok can_now.steady there
 
       -- the file system that has changed
       system : IsThere s name
@@ -173,21 +174,22 @@ module _ (s : State) (numbers : List BlockState) (sound : IsSound s numbers) whe
       -- what that leaves to be written
       module _ (batch : IsBatch (u ∷ [])) (path : List (Option Root)) (was : IsPathOf (live_of s.now.file_systems name) (first_of u) (block_on path)) (writes : Writes)
           (left : IsLeftBy u s.now.group done.made.items path writes) where
-        pub may_settle : MaySettle s.last s.size numbers (Blocks done writes)
+        pub may_settle : AllAllocated s.last.group numbers (map dead_block done.released.items)
+            × AllFree (releases s.last.group numbers (map dead_block done.released.items)) (map (λ n. n.0) done.taken.items) × MayWrite (synced_numbers s.size s.last) writes
         may_settle = (
           release_them s sound.steady numbers sound.states new _ _ can_now,
           take_them s sound.steady numbers sound.states new _ _ can_now,
-          update_may s numbers sound name system.system system.is u batch new done (here (Ok done) applied).ok can_now.steady path was writes left,
+          update_may s numbers sound name system.system system.is u batch new done (here done (Ok tt) applied).ok can_now.steady path was writes left,
         )
 
         pub leads_now : LeadsTo s (with_datasets s new) writes
-        leads_now = update_leads s numbers sound name system.system system.is u batch new done (here (Ok done) applied).ok can_now.steady path was writes left
+        leads_now = update_leads s numbers sound name system.system system.is u batch new done (here done (Ok tt) applied).ok can_now.steady path was writes left
 
       pub done_now : (q : Request) → Asks q (OfFileSystem name) (Ok u) → Step s q Done (with_datasets s new)
       done_now q asks =
           let is = rule q name u asks in
           let in_range = within q name u asks in
-          let written = here (Ok done) applied in
+          let written = here done (Ok tt) applied in
           ⊎_elim
           (λ bare. written_done s sound.steady bare numbers sound.states name q (OfFileSystem name) refl (changes_of (u ∷ [])) asks.in_range is in_range new done written.ok written.room there)
           (λ fits. written_done_within s sound.steady numbers sound.states name q (OfFileSystem name) refl (changes_of (u ∷ [])) asks.in_range is in_range new done written.ok fits there)

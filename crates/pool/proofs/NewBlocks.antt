@@ -62,7 +62,8 @@ use Rattle.images.proofs.Written.{unique_in, rewrite_rises}
 use Rattle.steps.specs.Edits.{datasets_of}
 use Rattle.steps.specs.Intakes.{IsMadeOf}
 use Rattle.steps.specs.Received.{put_freeing}
-use Rattle.steps.specs.declared.intake.Intake.{Intake}
+use Rattle.removals.specs.declared.working_copy.WorkingCopy.{WorkingCopy}
+use Rattle.batch.specs.declared.draft.Draft.{Draft}
 use Rattle.tree.proofs.Told.{range_long}
 use Rattle.tree.specs.Branch.{child_key}
 use Rattle.pool.specs.Images.{LeadsTo}
@@ -159,7 +160,7 @@ long_bytes n m tree k c there = by_level (k.level == 0) refl
 
 -- ---- the receive
 
-module _ (s : State) (good : IsPoolState s) (m : Member) (mode : Receiving) (sent : Sending) (i : Intake) (is : IsMadeOf s m mode sent i) (after : IsPoolState (put_freeing s i.to i.freeing)) where
+module _ (s : State) (good : IsPoolState s) (m : Member) (mode : Receiving) (sent : Sending) (i : WorkingCopy) (done : Draft) (is : IsMadeOf s m mode sent i done) (after : IsPoolState (put_freeing s i.to i.freeing)) where
   abbrev w : World
   w = before_receive s.now m.file_system sent mode
 
@@ -229,17 +230,17 @@ module _ (s : State) (good : IsPoolState s) (m : Member) (mode : Receiving) (sen
       (λ k x at. is.begun.pair.reached.born (block_of x) (cell_reached s.size w is.begun.now (Live name) k x (ap (λ y. get y k) old_map ∙ at))))
 
   -- the tree has a block at each key that the change tells
-  present_at : (b : NewBlock) → IsIn i.done.made.items b → IsSome (get is.change.change.new b.key)
+  present_at : (b : NewBlock) → IsIn done.made.items b → IsSome (get is.change.change.new b.key)
   present_at b h =
-      let j = subst (λ l. IsIn l (made_pair b)) is.change.made (map_in made_pair i.done.made.items b h) in
+      let j = subst (λ l. IsIn l (made_pair b)) is.change.made (map_in made_pair done.made.items b h) in
       let made = (change.made b.key b.block.0).0 j in
       ap is_some (ap (λ y. get y b.key) change.new_is) ∙ sym (same_presence f.live ch 0 w.group (λ _. 0) change.number b.key) ∙ made.0.1
 
-  pub present : ArePresent (live_of i.to.file_systems m.file_system) i.done.made.items
-  present = subst (λ y. ArePresent y i.done.made.items) (sym live_now) (all_in (λ (b : NewBlock). IsSome (get new b.key)) i.done.made.items present_at)
+  pub present : ArePresent (live_of i.to.file_systems m.file_system) done.made.items
+  present = subst (λ y. ArePresent y done.made.items) (sym live_now) (all_in (λ (b : NewBlock). IsSome (get new b.key)) done.made.items present_at)
 
   module _ (blocks : Vec (BlockNo × List ℕ) Global)
-      (told : map written_pair blocks.items ≡ writes_of (live_of i.to.file_systems m.file_system) (map made_pair i.done.made.items)) where
+      (told : map written_pair blocks.items ≡ writes_of (live_of i.to.file_systems m.file_system) (map made_pair done.made.items)) where
     are : map written_pair blocks.items ≡ writes_of is.change.change.new is.change.change.made
     are = told ∙ (λ z. writes_of (live_now z) (is.change.made z))
 

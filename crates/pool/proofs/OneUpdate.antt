@@ -19,7 +19,7 @@ use Rattle.tree.specs.Branch.{child_key}
 use Rattle.tree.specs.Change.{IsChange}
 use Rattle.tree.specs.Reading.{key_over}
 use Rattle.tree.specs.declared.block.Root.{Root}
-use Rattle.tree.specs.declared.change.Changed.{Changed}
+use Rattle.batch.specs.declared.draft.Draft.{Draft}
 use Rattle.zalloc.specs.declared.BlockState.{BlockState}
 use Rattle.zalloc.specs.declared.BlockState.TheVariants.{Allocated}
 use Rattle.model.specs.State.{State}
@@ -62,7 +62,7 @@ use Rattle.images.specs.declared.writes.Writes.TheVariants.{Idle, OnPath, Each}
 use Rattle.pool.proofs.Kept.{kept_long, kept_just}
 
 module _ (s : State) (numbers : List BlockState) (sound : IsSound s numbers) (name : List ℕ) (f : FileSystem) (at : get s.now.file_systems name ≡ Some f) (u : Update) (batch : IsBatch (u ∷ []))
-    (new : Datasets) (done : Changed) (has : HasWritten (datasets_of s) new name (changes_of (u ∷ [])) s.last.group numbers done) (after : IsSteady (with_datasets s new))
+    (new : Datasets) (done : Draft) (has : HasWritten (datasets_of s) new name (changes_of (u ∷ [])) s.last.group numbers done) (after : IsSteady (with_datasets s new))
     (path : List (Option Root)) (was : IsPathOf (live_of s.now.file_systems name) (first_of u) (block_on path)) where
   abbrev good : IsPoolState s
   good = sound.steady.good

@@ -33,7 +33,7 @@ use Rattle.pool.specs.declared.effect.Effect.TheVariants.{Nothing, Guids, Blocks
 abbrev pub effected : State → Effect → State
 effected s Nothing = s
 effected s (Guids next) = record s { next_guid = next }
-effected s (Blocks done writes) = s
+effected s (Blocks draft writes) = s
 effected s (Taken taken) = s
 effected s (Synced last viewed) = record s { last = world_in last.value }
 effected s Abandoned = s
@@ -43,7 +43,7 @@ effected s (Closed number) = closed s number
 abbrev pub numbers_after : OneWorld → ℕ → List BlockState → Effect → List BlockState
 numbers_after last size numbers Nothing = numbers
 numbers_after last size numbers (Guids next) = numbers
-numbers_after last size numbers (Blocks done writes) = takes (releases last.group numbers (map dead_block done.released.items)) (map (λ n. n.0) done.taken.items)
+numbers_after last size numbers (Blocks draft writes) = takes (releases last.group numbers (map dead_block draft.value.released.items)) (map (λ n. n.0) draft.value.taken.items)
 numbers_after last size numbers (Taken taken) = releases last.group numbers (map dead_block taken.items)
 numbers_after last size numbers (Synced to viewed) = map after_group numbers
 numbers_after last size numbers Abandoned = synced_numbers size last
@@ -61,9 +61,9 @@ pub record CanBeLast (size : ℕ) (numbers : List BlockState) (to : World) (view
 abbrev pub MaySettle : OneWorld → ℕ → List BlockState → Effect → Type 0
 MaySettle last size numbers Nothing = Unit {0}
 MaySettle last size numbers (Guids next) = Unit {0}
-MaySettle last size numbers (Blocks done writes) =
-    AllAllocated last.group numbers (map dead_block done.released.items)
-    × AllFree (releases last.group numbers (map dead_block done.released.items)) (map (λ n. n.0) done.taken.items)
+MaySettle last size numbers (Blocks draft writes) =
+    AllAllocated last.group numbers (map dead_block draft.value.released.items)
+    × AllFree (releases last.group numbers (map dead_block draft.value.released.items)) (map (λ n. n.0) draft.value.taken.items)
     × MayWrite (synced_numbers size last) writes
 MaySettle last size numbers (Taken taken) = AllAllocated last.group numbers (map dead_block taken.items)
 MaySettle last size numbers (Synced to viewed) = CanBeLast size numbers to.value viewed.items
@@ -72,7 +72,7 @@ MaySettle last size numbers (Closed number) = Unit {0}
 
 -- the image of a pool of so many blocks once it is done (profile)
 abbrev pub image_after : ℕ → ShownImage → Effect → ShownImage
-image_after size i (Blocks done writes) = record i { bytes = images_put i.bytes (writes_in (block_at i.bytes) writes) }
+image_after size i (Blocks draft writes) = record i { bytes = images_put i.bytes (writes_in (block_at i.bytes) writes) }
 image_after size i (Synced to viewed) = record i { kept = synced_numbers size (world_in to.value); keeps = counted i.keeps 1 }
 image_after size i Nothing = i
 image_after size i (Guids next) = i
@@ -82,7 +82,7 @@ image_after size i (Closed number) = i
 
 -- the blocks that are written into an image of these bytes, each with its number (profile)
 abbrev pub blocks_written : List ℕ → Effect → List (ℕ × List ℕ)
-blocks_written bytes (Blocks done writes) = writes_in (block_at bytes) writes
+blocks_written bytes (Blocks draft writes) = writes_in (block_at bytes) writes
 blocks_written bytes effect = []
 
 -- how often states were put into it (profile)
@@ -92,19 +92,19 @@ keeps_of keeps effect = keeps
 
 -- a live map has changed, and its blocks are to be written (profile)
 abbrev pub WritesBlocks : Effect → Type 0
-WritesBlocks (Blocks done writes) = Unit {0}
+WritesBlocks (Blocks draft writes) = Unit {0}
 WritesBlocks effect = ⊥
 
 -- what is written leads from one state to another (profile)
 abbrev pub Leads : State → State → Effect → Type 0
-Leads s t (Blocks done writes) = LeadsTo s t writes
+Leads s t (Blocks draft writes) = LeadsTo s t writes
 Leads s t effect = Unit {0}
 
 -- the reply to the request (profile)
 abbrev pub reply_of : Effect → Reply
 reply_of Nothing = Done
 reply_of (Guids next) = Done
-reply_of (Blocks done writes) = Done
+reply_of (Blocks draft writes) = Done
 reply_of (Taken taken) = Count (length taken.items)
 reply_of (Synced last viewed) = Group last.value.table.group
 reply_of Abandoned = Done

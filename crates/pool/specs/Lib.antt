@@ -8,3 +8,4 @@ pub mod Effects
 pub mod Plans
 pub mod Asked
 pub mod Applied
+pub mod Ahead

@@ -1,5 +1,9 @@
 //! Reads of what requests will read, before they are made.
-ghost use Rattle.std.specs.Prelude.{◌+◌, ◌<◌, ◌≤◌};
+ghost use Rattle.std.specs.Prelude.{◌≡◌, ◌+◌, ◌<◌, ◌≤◌};
+ghost use Rattle.std.specs.FinMap.{len};
+ghost use Rattle.tree.specs.Ahead.{many_blocks, present_on_paths};
+ghost use Rattle.datasets.specs.Rows.{live_of};
+ghost use Rattle.pool.specs.Ahead.{leaves_in};
 
 use base::name::{DsName, Target};
 use datasets::Table;
@@ -14,6 +18,8 @@ const PAUSE: usize = 256;
 
 /// Reads ahead the paths to these blocks of a live file system. Returns how many nodes it read.
 pub(crate) fn read_ahead(table: &Table, name: &DsName, blocks: &[ObjectBlock]) -> u32
+    ensures small { len (live_of table.now.file_systems name.now) < many_blocks → result ≡ 0 }
+    ensures all { many_blocks ≤ len (live_of table.now.file_systems name.now) → result ≡ present_on_paths (live_of table.now.file_systems name.now) (leaves_in 16 blocks.now) }
     ensures few { result ≤ 96 }
 {
     let Some(file_system) = table.find(name) else {
@@ -105,7 +111,6 @@ fn blocks_in(requests: &[Request]) -> Blocks<'_>
 
 /// Reads ahead for the first sixteen requests of a list. Returns how many requests to make before the next look.
 pub(crate) fn look(table: &Table, requests: &[Request]) -> usize
-    ensures some { 0 < result }
     ensures few { result ≤ 256 }
 {
     let Blocks {

@@ -10,11 +10,11 @@ ghost use Rattle.pool.specs.Pools.{state_in, IsHeld};
 ghost use Rattle.pool.specs.Effects.{IsPerformed, WritesBlocks};
 
 use crate::effect::{Effect, Performed};
-use crate::keep::{Keep, Meters};
+use crate::keep::{Keep, Meters, Spare};
 use crate::worlds::World;
 use base::name::{DsName, Target};
 use base::refusal::Refusal;
-use images::{path_before, writes_after};
+use images::writes_after;
 use std::alloc::Global;
 use std::slice::from_ref;
 use steps::{ask_change, live_name, settle};
@@ -31,6 +31,7 @@ impl Keep {
         target: &Target,
         update: Result<Update<'a>, Refusal>,
         meters: &mut Meters,
+        spare: &mut Spare,
     ) -> Performed<'a>
         requires held { IsHeld self.now world.old }
         requires batch { IfOk update (λ u. IsBatch (u ∷ [])) }
@@ -57,8 +58,10 @@ impl Keep {
             &update,
             &mut meters.blocks,
         )?;
-        let path = path_before(alloc, &world.table, name, &update, &mut meters.blocks)?;
-        let done = world.table.apply_live(
+        let mut path = spare.path(alloc)?;
+        let mut draft = spare.draft(alloc)?;
+        path.begin(&world.table, name, &update, &mut meters.blocks);
+        world.table.apply_live(
             name,
             alloc,
             from_ref(&update),
@@ -66,10 +69,11 @@ impl Keep {
             self.numbers.present(),
             &mut meters.blocks,
             &mut meters.segments,
+            &mut draft,
         )?;
         settle(&mut world.ledger, &world.table, name, outlook);
-        let writes = writes_after(group, &update, path, &done.made);
-        Ok(Effect::Blocks(done, writes))
+        let writes = writes_after(group, &update, path, draft.made.as_slice());
+        Ok(Effect::Blocks(draft, writes))
     }
 
     // The refusal where an object or block number is outside its limits, so that there is no update. NoDataset takes precedence over it.

@@ -11,7 +11,7 @@ use images::Writes;
 use model::reply::Reply;
 use model::snapshot_id::SnapshotId;
 use std::alloc::Global;
-use tree::Changed;
+use tree::Draft;
 
 /// What a request that has changed a world leaves to be done outside the world.
 #[derive(Drop)]
@@ -20,8 +20,9 @@ pub(crate) enum Effect<'a> {
     Nothing,
     /// The guid counter becomes this number.
     Guids(u64),
-    /// A live map has changed: blocks are released, numbers taken, and blocks written into the image.
-    Blocks(Changed, Writes<'a>),
+    /// A live map has changed: the blocks that its draft names are released, its numbers taken, and blocks written into the image. The draft is
+    /// boxed, so that a move of an effect doesn't copy it.
+    Blocks(Box<Draft>, Writes<'a>),
     /// These blocks were taken out of the blocks to be freed, and are released.
     Taken(Vec<Dead>),
     /// The world is synced: this world becomes the last synced one, and these are the snapshots that the open views show. Waiting numbers become
@@ -58,7 +59,7 @@ impl Effect<'_> {
         Ok(match self {
             Effect::Nothing => Effect::Nothing,
             Effect::Guids(next) => Effect::Guids(next),
-            Effect::Blocks(done, writes) => Effect::Blocks(done, writes.owned(alloc)?),
+            Effect::Blocks(draft, writes) => Effect::Blocks(draft, writes.owned(alloc)?),
             Effect::Taken(taken) => Effect::Taken(taken),
             Effect::Synced(last, viewed) => Effect::Synced(last, viewed),
             Effect::Abandoned => Effect::Abandoned,

@@ -13,8 +13,10 @@ use crate::worlds::World;
 use base::meter::{Meter, SegMeter};
 use base::number::{BlockNo, Dead, Group};
 use image::Image;
-use images::write_down;
+use images::{ChangedPath, Writes, write_down};
 use model::snapshot_id::SnapshotId;
+use std::alloc::{AllocError, Global};
+use tree::Draft;
 use views::Views;
 use zalloc::Numbers;
 
@@ -70,10 +72,52 @@ impl Drop for Meters {
     }
 }
 
+/// What a change of a live map needs beside its world, kept from the last one, so that the next takes no memory for it.
+#[derive(Drop)]
+pub(crate) struct Spare {
+    draft: Option<Box<Draft>>,
+    path: Option<Box<ChangedPath>>,
+}
+
+impl Spare {
+    pub(crate) fn new() -> Spare {
+        Spare {
+            draft: None,
+            path: None,
+        }
+    }
+
+    /// The spare draft, or a new one.
+    pub(crate) fn draft(&mut self, alloc: Global) -> Result<Box<Draft>, AllocError> {
+        match self.draft.take() {
+            Some(draft) => Ok(draft),
+            None => Ok(Box::new(alloc, Draft::new(alloc))?),
+        }
+    }
+
+    /// The spare path, or a new one.
+    pub(crate) fn path(&mut self, alloc: Global) -> Result<Box<ChangedPath>, AllocError> {
+        match self.path.take() {
+            Some(path) => Ok(path),
+            None => Ok(Box::new(alloc, ChangedPath::new())?),
+        }
+    }
+
+    /// Keeps these for the next change; a draft whose lists have taken memory goes.
+    fn keep(&mut self, draft: Box<Draft>, writes: Writes<'_>) {
+        if !draft.is_spilled() {
+            self.draft = Some(draft);
+        }
+        if let Writes::OnPath { path, .. } = writes {
+            self.path = Some(path);
+        }
+    }
+}
+
 impl Keep {
     /// Settles the effect of a request, once its world is in place. Nothing else changes the states of the numbers, or the image. It allocates
-    /// nothing, and costs what `Pool::commit` says.
-    pub(crate) fn settle(&mut self, effect: Effect<'_>)
+    /// nothing, and costs what `Pool::commit` says. What a change can leave for the next one goes to `spare`.
+    pub(crate) fn settle(&mut self, effect: Effect<'_>, spare: &mut Spare)
         requires may { MaySettle (world_in self.old.last) self.old.size self.old.numbers.present effect }
         requires synced { self.old.numbers.synced ≡ synced_numbers self.old.size (world_in self.old.last) }
         requires image { self.old.image.kept ≡ synced_numbers self.old.size (world_in self.old.last) }
@@ -88,10 +132,12 @@ impl Keep {
         match effect {
             Effect::Nothing => {}
             Effect::Guids(next) => self.next_guid = next,
-            Effect::Blocks(done, writes) => {
-                release_all(&mut self.numbers, &done.released, self.last.table.group());
-                take_all(&mut self.numbers, &done.taken);
+            Effect::Blocks(draft, writes) => {
+                let group = self.last.table.group();
+                release_all(&mut self.numbers, draft.released.as_slice(), group);
+                take_all(&mut self.numbers, draft.taken.as_slice());
                 write_down(&mut self.image, &writes);
+                spare.keep(draft, writes);
             }
             Effect::Taken(taken) => release_all(&mut self.numbers, &taken, self.last.table.group()),
             Effect::Synced(last, viewed) => {

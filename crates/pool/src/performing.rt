@@ -8,7 +8,7 @@ ghost use Rattle.pool.specs.Reached.{changes_blocks, reaches_lists};
 ghost use Rattle.pool.specs.declared.kind.Kind.{Kind};
 
 use crate::effect::Performed;
-use crate::keep::{Keep, Meters};
+use crate::keep::{Keep, Meters, Spare};
 use crate::worlds::World;
 use model::request::Request;
 use std::alloc::Global;
@@ -17,13 +17,14 @@ use tree::objset::{free_of, punch_of, write_of};
 impl Keep {
     /// Changes this world by a request that changes one, and returns the effect, which is left to be settled. At `Err` the world is unchanged,
     /// but for one case: where the request checks the limits of the changed world, and the world has a ledger, it may have changed, and the
-    /// caller discards it.
+    /// caller discards it. A change takes its draft and path from `spare`, and leaves them in its effect.
     pub(crate) fn perform<'a>(
         &self,
         alloc: Global,
         world: &mut World,
         request: &'a Request,
         meters: &mut Meters,
+        spare: &mut Spare,
     ) -> Performed<'a>
         requires held { IsHeld self.now world.old }
         requires no_question { kind_of request.now ≢ Kind.Question }
@@ -50,15 +51,22 @@ impl Keep {
                 bytes,
             } => {
                 let update = write_of(*object, *block, bytes.as_array());
-                self.change(alloc, world, target, update, meters)
+                self.change(alloc, world, target, update, meters, spare)
             }
             Request::Punch {
                 target,
                 object,
                 block,
-            } => self.change(alloc, world, target, punch_of(*object, *block), meters),
+            } => self.change(
+                alloc,
+                world,
+                target,
+                punch_of(*object, *block),
+                meters,
+                spare,
+            ),
             Request::FreeObject { target, object } => {
-                self.change(alloc, world, target, free_of(*object), meters)
+                self.change(alloc, world, target, free_of(*object), meters, spare)
             }
             Request::Snapshot { names, recursive } => {
                 self.snapshot(alloc, world, names, *recursive)
@@ -99,7 +107,7 @@ impl Keep {
                 snapshot,
                 bytes,
                 mode,
-            } => self.receive(alloc, world, snapshot, bytes, mode, meters),
+            } => self.receive(alloc, world, snapshot, bytes, mode, meters, spare),
             Request::CloseView { view } => self.close(alloc, world, *view, &mut meters.segments),
             Request::Slice { count } => self.slice(world, *count, meters),
             Request::Sync => self.sync(alloc, world),

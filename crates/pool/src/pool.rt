@@ -1,9 +1,13 @@
 //! The pool and its steps.
 ghost use Rattle.std.specs.Prelude.{◌≡◌, ◌≢◌, ◌<◌, ◌≤◌, ◌*◌, ◌⊎◌, ◌↔◌, [], None, Err, true, IfOk, IfErr, map, replicate, if◌then◌else◌};
+ghost use Rattle.std.specs.FinMap.{len};
 ghost use Rattle.base.specs.declared.refusal.Refusal.{Refusal};
+ghost use Rattle.tree.specs.Ahead.{many_blocks, present_on_paths};
 ghost use Rattle.model.specs.State.{fresh_state};
 ghost use Rattle.model.specs.Step.{Step};
 ghost use Rattle.model.specs.Run.{Run};
+ghost use Rattle.datasets.specs.Rows.{live_of};
+ghost use Rattle.pool.specs.Ahead.{leaves_in};
 ghost use Rattle.pool.specs.Applied.{IsBetween, IsApplied, AreApplied};
 ghost use Rattle.pool.specs.Kinds.{kind_of};
 ghost use Rattle.pool.specs.Reached.{IsMetered};
@@ -16,7 +20,7 @@ ghost use Rattle.pool.specs.declared.kind.Kind.{Kind};
 
 use crate::ahead::{look, read_ahead};
 use crate::effect::Effect;
-use crate::keep::{Keep, Meters};
+use crate::keep::{Keep, Meters, Spare};
 use crate::kind::{Kind, changed_name, kind_of};
 use crate::worlds::World;
 use base::meter::{Meter, SegMeter};
@@ -39,6 +43,7 @@ pub struct Pool {
     present: World,
     keep: Keep,
     meters: Meters,
+    spare: Spare,
 }
 
 // Written by hand, so that it is proved once: a derived `Drop` is expanded again in each crate that drops the type.
@@ -48,10 +53,12 @@ impl Drop for Pool {
             present,
             keep,
             meters,
+            spare,
         } = self;
         drop(present);
         drop(keep);
         drop(meters);
+        drop(spare);
     }
 }
 
@@ -153,6 +160,7 @@ impl Pool {
             present,
             keep,
             meters,
+            spare: Spare::new(),
         })
     }
 
@@ -236,7 +244,8 @@ impl Pool {
             Ok(to) => to,
             Err(refusal) => return (Reply::Refused(refusal), Plan::Nothing),
         };
-        let performed = self.keep.perform(alloc, &mut to, request, &mut self.meters);
+        let (meters, spare) = (&mut self.meters, &mut self.spare);
+        let performed = self.keep.perform(alloc, &mut to, request, meters, spare);
         let effect = match performed {
             Ok(effect) => effect,
             Err(refusal) => return (Reply::Refused(refusal), Plan::Nothing),
@@ -282,7 +291,7 @@ impl Pool {
             Plan::Open { snapshot } => self.keep.views.open(snapshot),
             Plan::Put { to, effect } => {
                 self.present = to;
-                self.keep.settle(effect);
+                self.keep.settle(effect, &mut self.spare);
             }
         }
     }
@@ -314,6 +323,8 @@ impl Pool {
     /// the number of file systems, and at most six nodes a block. Returns how many nodes it read: none where there is no such file system, or
     /// where its live map has fewer than 4,096 blocks, which a cache has.
     pub fn read_ahead(&self, name: &DsName, blocks: &[ObjectBlock]) -> u32
+        ensures small { len (live_of self.now.state.now.file_systems name.now) < many_blocks → result ≡ 0 }
+        ensures all { many_blocks ≤ len (live_of self.now.state.now.file_systems name.now) → result ≡ present_on_paths (live_of self.now.state.now.file_systems name.now) (leaves_in 16 blocks.now) }
         ensures few { result ≤ 96 }
     {
         read_ahead(&self.present.table, name, blocks)
@@ -358,6 +369,7 @@ impl Pool {
                 &mut self.keep,
                 request,
                 &mut self.meters,
+                &mut self.spare,
                 reply,
             ),
             Kind::Asking => {
@@ -371,6 +383,7 @@ impl Pool {
                     &mut self.keep,
                     request,
                     &mut self.meters,
+                    &mut self.spare,
                     reply,
                 )
             }
@@ -474,6 +487,7 @@ fn in_place(
     keep: &mut Keep,
     request: &Request,
     meters: &mut Meters,
+    spare: &mut Spare,
     reply: &mut Reply,
 )
     requires held { IsHeld keep.old world.old }
@@ -486,10 +500,10 @@ fn in_place(
     ensures keeps { keep.new.image.keeps ≡ keeps_after request.now reply.new keep.old.image.keeps }
 {
     let _group = world.table.group();
-    match keep.perform(alloc, world, request, meters) {
+    match keep.perform(alloc, world, request, meters, spare) {
         Ok(effect) => {
             effect.tell(reply);
-            keep.settle(effect);
+            keep.settle(effect, spare);
         }
         Err(refusal) => *reply = Reply::Refused(refusal),
     }

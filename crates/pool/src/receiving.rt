@@ -5,14 +5,15 @@ ghost use Rattle.pool.specs.Pools.{state_in, IsHeld};
 ghost use Rattle.pool.specs.Effects.{IsPerformed, WritesBlocks};
 
 use crate::effect::{Effect, Performed};
-use crate::keep::{Keep, Meters};
+use crate::keep::{Keep, Meters, Spare};
 use crate::worlds::World;
 use base::name::SnapName;
 use base::text::Bytes;
 use images::{Writes, blocks_in};
 use model::receiving::Receiving;
+use removals::WorkingCopy;
 use std::alloc::Global;
-use steps::{Intake, Present, intake_of, recount};
+use steps::{Present, intake_of, recount};
 
 impl Keep {
     /// Receives a stream. At `Err` the world is unchanged. It costs what `steps::intake_of` does, and what `blocks_in` does for the new blocks.
@@ -24,6 +25,7 @@ impl Keep {
         bytes: &Bytes,
         mode: &Receiving,
         meters: &mut Meters,
+        spare: &mut Spare,
     ) -> Performed<'static>
         requires { IsHeld self.now world.old }
         ensures performed { IsPerformed (state_in self.now world.old) self.now.numbers.present world.new (Request.Receive snapshot.now bytes.now mode.now) result }
@@ -41,6 +43,7 @@ impl Keep {
             size: self.size,
             is_limited: world.ledger.is_some(),
         };
+        let mut draft = spare.draft(alloc)?;
         let intake = intake_of(
             alloc,
             present,
@@ -49,14 +52,15 @@ impl Keep {
             mode,
             &mut meters.blocks,
             &mut meters.segments,
+            &mut draft,
         )?;
-        let Intake { to, freeing, done } = intake;
+        let WorkingCopy { to, freeing } = intake;
         let name = &snapshot.member().file_system;
-        let blocks = blocks_in(alloc, &to, name, &done.made, &mut meters.blocks)?;
+        let blocks = blocks_in(alloc, &to, name, draft.made.as_slice(), &mut meters.blocks)?;
         let writes = Writes::Each { blocks };
         world.table = to;
         world.freeing = freeing;
         recount(&mut world.ledger, &world.table, name);
-        Ok(Effect::Blocks(done, writes))
+        Ok(Effect::Blocks(draft, writes))
     }
 }

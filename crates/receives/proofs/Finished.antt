@@ -9,7 +9,7 @@ use Rattle.base.specs.Map.{Map}
 use Rattle.base.specs.Rewrite.{Changes, rewrite}
 use Rattle.base.specs.declared.name.member.Member.{Member}
 use Rattle.zalloc.specs.declared.BlockState.{BlockState}
-use Rattle.tree.specs.declared.change.Changed.{Changed}
+use Rattle.batch.specs.declared.draft.Draft.{Draft}
 use Rattle.model.specs.Hierarchy.{FileSystems}
 use Rattle.model.specs.World.{World, FileSystem}
 use Rattle.model.specs.Edits.{with_next_group}
@@ -34,7 +34,7 @@ module _ (t u : Datasets) (m : Member) (new : Map) (can : CanFinish t m) (is : u
 
 -- ---- the state after it
 
-module _ (t u : Datasets) (m : Member) (guid : ℕ) (c : Changes) (synced : ℕ) (states : List BlockState) (done : Changed) (can : CanFinish t m) (r : HasReceived t u m guid c synced states done) where
+module _ (t u : Datasets) (m : Member) (guid : ℕ) (c : Changes) (synced : ℕ) (states : List BlockState) (done : Draft) (can : CanFinish t m) (r : HasReceived t u m guid c synced states done) where
   abbrev f : FileSystem
   f = can.takable.0.0
 

@@ -4,7 +4,7 @@ use Rattle.base.specs.declared.number.Key.{Key}
 use Rattle.base.specs.Rewrite.{Changes}
 use Rattle.base.specs.declared.name.member.Member.{Member}
 use Rattle.zalloc.specs.declared.BlockState.{BlockState}
-use Rattle.tree.specs.declared.change.Changed.{Changed}
+use Rattle.batch.specs.declared.draft.Draft.{Draft}
 use Rattle.model.specs.World.{World}
 use Rattle.model.specs.Edits.{after_change, with_next_group}
 use Rattle.model.specs.requests.Snapshot.{with_snapshot}
@@ -21,7 +21,7 @@ pub record CanFinish (t : Datasets) (m : Member) : Type 0 where
 
 -- These changes of a live map are in force, and it is kept as the snapshot of this name and guid, of the group that was open, which is
 -- closed (zfs-receive(8); groups are profile)
-pub record HasReceived (t u : Datasets) (m : Member) (guid : ℕ) (c : Changes) (synced : ℕ) (states : List BlockState) (done : Changed) : Type 0 where
+pub record HasReceived (t u : Datasets) (m : Member) (guid : ℕ) (c : Changes) (synced : ℕ) (states : List BlockState) (done : Draft) : Type 0 where
   pub written : Datasets
   pub change : HasWritten t written m.file_system c synced states done
   pub kept : u ≡ with_snap_at (record written { group = written.group + 1 }) m.file_system m.component guid written.group

@@ -16,12 +16,12 @@ use base::number::{Group, Guid};
 use base::refusal::Refusal;
 use datasets::Table;
 use std::alloc::Global;
-use tree::{Changed, Update};
+use tree::{Draft, Update};
 use zalloc::Allocator;
 
 /// Applies the updates of a stream to the live tree of the file system that a receive began with, and keeps the live map as the snapshot of this
 /// name with the sender's guid, which closes the open group (zfs-receive(8); that the guid is the sender's, and groups, are profile). `synced`
-/// is the group that the last sync opened. The answer names the numbers of the new blocks, which aren't taken from the allocator yet, and those
+/// is the group that the last sync opened. The draft then names the numbers of the new blocks, which aren't taken from the allocator yet, and those
 /// of the blocks dropped by the tree that no snapshot has. NoSpace where the Free numbers and those of the dropped young blocks are too few,
 /// else NoMemory where memory is refused, or where the snapshots would have more blocks than a u64 counts. On error, discard the table. It costs
 /// the logarithm of the number of file systems, and the change; where another table shares this one's snapshots, also a 1,024th of their number.
@@ -35,11 +35,12 @@ pub fn finish(
     allocator: &Allocator,
     meter: &mut Meter,
     segments: &mut SegMeter,
-) -> Result<Changed, Refusal>
+    draft: &mut Draft,
+) -> Result<(), Refusal>
     requires can { CanFinish table.old name.now }
     requires writes { AllowsWrite table.old updates.now synced.0 allocator.now }
-    ensures ok { IfOk result (HasReceived table.old table.new name.now target.0 (changes_of updates.now) synced.0 allocator.now) }
-    ensures after { IfOk result (λ done. (number : Key → ℕ) × (world_of table.new ≡ finished table.old name.now target.0 (changes_of updates.now) number)) }
+    ensures ok { OnOk result (HasReceived table.old table.new name.now target.0 (changes_of updates.now) synced.0 allocator.now draft.new) }
+    ensures after { OnOk result ((number : Key → ℕ) × (world_of table.new ≡ finished table.old name.now target.0 (changes_of updates.now) number)) }
     ensures room { OnOk result (HasRoom (live_of table.old.file_systems name.now.file_system) (changes_of updates.now) (young_of table.old name.now.file_system synced.0) allocator.now) }
     ensures no_space { result ≡ Err Refusal.NoSpace → LacksRoom (live_of table.old.file_systems name.now.file_system) (changes_of updates.now) (young_of table.old name.now.file_system synced.0) allocator.now }
     ensures only { IfErr result IsNoSpaceOrNoMemory }
@@ -48,7 +49,7 @@ pub fn finish(
     ensures segments_never_lower { segments.old ≤ segments.new }
 {
     let name = name.member();
-    let changed = table.apply_live(
+    table.apply_live(
         &name.file_system,
         alloc,
         updates,
@@ -56,8 +57,9 @@ pub fn finish(
         allocator,
         meter,
         segments,
+        draft,
     )?;
     table.facts();
     table.keep_live(alloc, &name.file_system, &name.component, target)?;
-    Ok(changed)
+    Ok(())
 }

@@ -34,7 +34,7 @@ use Rattle.steps.specs.Edits.{datasets_of, StaysUnlimited}
 use Rattle.steps.specs.Received.{asked_by_receive, put_freeing, CanReceive}
 use Rattle.steps.specs.Steady.{IsSteady}
 use Rattle.steps.specs.declared.intake.Present.{Present}
-use Rattle.steps.specs.declared.intake.Intake.{Intake}
+use Rattle.batch.specs.declared.draft.Draft.{Draft}
 
 -- why bytes aren't read: they are no stream, or there is no memory for it (zfs-receive(8))
 abbrev pub IsUnread : List ℕ → Refusal → Type 0
@@ -64,20 +64,20 @@ pub record IsUnderWay (s : State) (p : Present) (m : Member) (sent : Sending) (m
 
 -- what a receive of what was sent makes: its records are in force in the live map that it begins with, and that is kept as the snapshot
 -- (zfs-receive(8))
-pub record IsMadeOf (s : State) (m : Member) (mode : Receiving) (sent : Sending) (i : Intake) : Type 0 where
+pub record IsMadeOf (s : State) (m : Member) (mode : Receiving) (sent : Sending) (i : WorkingCopy) (done : Draft) : Type 0 where
   pub begun : IsPoolState (with_now s (before_receive s.now m.file_system sent mode))
   pub there : AreTakable (before_receive s.now m.file_system sent mode).file_systems (m ∷ [])
   pub written : Datasets
   pub states : List BlockState
-  pub change : HasWritten (datasets_of (with_now s (before_receive s.now m.file_system sent mode))) written m.file_system (changes_of_records sent.records) s.last.group states i.done
+  pub change : HasWritten (datasets_of (with_now s (before_receive s.now m.file_system sent mode))) written m.file_system (changes_of_records sent.records) s.last.group states done
   pub kept : i.to ≡ with_snap_at (record written { group = written.group + 1 }) m.file_system m.component sent.target written.group
 
 -- the pool can put this in the place of what it keeps, from which it differs at one name alone, and then the receive is done (zfs-receive(8))
-pub record IsIntakeOf (s : State) (m : Member) (bytes : List ℕ) (mode : Receiving) (i : Intake) : Type 0 where
+pub record IsIntakeOf (s : State) (m : Member) (bytes : List ℕ) (mode : Receiving) (i : WorkingCopy) (done : Draft) : Type 0 where
   pub sent : Sending
-  pub made : IsMadeOf s m mode sent i
+  pub made : IsMadeOf s m mode sent i done
   pub one : IsRecounted (world_of (datasets_of s)) (world_of i.to) m.file_system
-  pub can : CanReceive s i.to i.freeing (map dead_block i.done.released.items) (map (λ n. n.0) i.done.taken.items)
+  pub can : CanReceive s i.to i.freeing (map dead_block done.released.items) (map (λ n. n.0) done.taken.items)
   pub unlimited : StaysUnlimited s i.to
   pub step : Step s (Receive m bytes mode) Done (put_freeing s i.to i.freeing)
 

@@ -20,7 +20,7 @@ use receives::{begin, finish, updates_of};
 use removals::WorkingCopy;
 use std::alloc::Global;
 use stream::{Stream, StreamFault, read_stream};
-use tree::Changed;
+use tree::Draft;
 use views::Views;
 use zalloc::Allocator;
 
@@ -39,17 +39,9 @@ pub struct Present<'a> {
     pub is_limited: bool,
 }
 
-/// What a pool keeps once a receive is done: the datasets and what is to be freed. Before these are put in place, the blocks that `done` names
-/// are to be released, and its numbers to be taken.
-#[derive(Drop)]
-pub struct Intake {
-    pub to: Table,
-    pub freeing: Freeing,
-    pub done: Changed,
-}
-
-/// What a receive of these bytes as a snapshot of this name makes of a pool (zfs-receive(8)). The pool stays as it is; once the result is put in
-/// place, it has made the receive's step with the reply Done. BadStream where the bytes are no stream; else what `receives::begin` refuses; else
+/// What a receive of these bytes as a snapshot of this name makes of a pool (zfs-receive(8)): the datasets, and what is to be freed. The pool
+/// stays as it is; once the result is put in place, it has made the receive's step with the reply Done. Before that, the blocks that `draft` then
+/// names are to be released, and its numbers to be taken. BadStream where the bytes are no stream; else what `receives::begin` refuses; else
 /// the first limit that would be broken with all records applied: Quota, else RefQuota, else NoSpace (zfsprops(7): quota, refquota, reservation;
 /// the order is profile); or NoMemory where memory is refused. It costs the bytes, the number of file systems, the chunks of pieces that are to
 /// be freed, the change, and what `receives::begin` and `receives::finish` do; where a file system may have a limit, the change is looked at
@@ -62,9 +54,10 @@ pub fn intake_of(
     mode: &Receiving,
     meter: &mut Meter,
     segments: &mut SegMeter,
-) -> Result<Intake, Refusal>
+    draft: &mut Draft,
+) -> Result<WorkingCopy, Refusal>
     requires { (s : State) × IsPresent s present }
-    ensures ok { (s : State) → IsPresent s present.entry → IfOk result (IsIntakeOf s name.now bytes.now mode.now) }
+    ensures ok { (s : State) → IsPresent s present.entry → IfOk result (λ i. IsIntakeOf s name.now bytes.now mode.now i draft.new) }
     ensures err { (s : State) → IsPresent s present.entry → IfErr result (λ e. Step s (Request.Receive name.now bytes.now mode.now) (Reply.Refused e) s) }
     ensures never_lower { meter.old ≤ meter.new }
     ensures segments_never_lower { segments.old ≤ segments.new }
@@ -83,7 +76,7 @@ pub fn intake_of(
     let updates = updates_of(alloc, stream.records())?;
     ask_limits(alloc, present, &edit, name, updates.as_slice(), meter)?;
     let WorkingCopy { mut to, freeing } = edit;
-    let done = finish(
+    finish(
         alloc,
         &mut to,
         name,
@@ -93,8 +86,9 @@ pub fn intake_of(
         present.allocator,
         meter,
         segments,
+        draft,
     )?;
-    Ok(Intake { to, freeing, done })
+    Ok(WorkingCopy { to, freeing })
 }
 
 // The stream that these bytes spell. BadStream where they spell none; else NoMemory where memory for its records is refused (zfs-receive(8); the

@@ -15,7 +15,7 @@ mod sending;
 
 pub use crate::answering::answer;
 pub use crate::asking::{ask_change, with_limit};
-pub use crate::intake::{Intake, Present, intake_of};
+pub use crate::intake::{Present, intake_of};
 pub use crate::limiting::{over, recount, renew, settle};
 pub use limits::outlook::Outlook;
 pub use limits::{Ledger, Space};

@@ -53,7 +53,7 @@ past_place idx s j p h =
     eq_not _ _ (λ e. not (omega (arith, e)))
 
 -- the lower digits of the lower digits
-low_rest : (r d : ℕ) → (r % 16 ^ suc d) % 16 ^ d ≡ r % 16 ^ d
+pub low_rest : (r d : ℕ) → (r % 16 ^ suc d) % 16 ^ d ≡ r % 16 ^ d
 low_rest r d =
     let c = span_positive d in
     let w : 16 ^ suc d ≡ 16 * 16 ^ d = pow-suc 16 d ∙ (let z : 16 ^ d * 16 ≡ 16 * 16 ^ d = omega arith in z) in

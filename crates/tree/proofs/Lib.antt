@@ -15,3 +15,4 @@ pub mod Putting
 pub mod Contents
 pub mod Told
 pub mod Sides
+pub mod Paths

@@ -1,6 +1,6 @@
 -- A draft of a map, and one that is put, over the root that the tree has.
 use Rattle.std.proofs.Common.{◌≡◌, ◌≤◌, ℕ, List, [], ◌∷◌, Option, Result, Ok, Err, sym, ap, subst, ◌∙◌, map, reverse, length}
-use Rattle.std.specs.Prelude.{IfOk}
+use Rattle.std.specs.Prelude.{OnOk}
 use Rattle.std.specs.declared.sync.Arc.{Arc}
 use Rattle.std.specs.declared.alloc.Global.{Global}
 use Rattle.std.proofs.lemmas.List.{length-map}
@@ -51,9 +51,9 @@ same_sound r s n e h = record {
 module _ (root : Option (Arc Root Global)) (count : ℕ) (sound : IsSoundTree root count) (m : Map) (is : map_of (root_forest root) ≡ m) (us : List Update) (y : ℕ) (states : List BlockState)
     (batch : IsBatch us) (allocated : AreAllocated m states) where
   -- what a draft lets go
-  pub drafted_released : (r : Result Draft Refusal) → IfOk r (IsDraft (whole root) us y states) → IfOk r (λ d. AreReleased m (changes_of us) y (map dead_block d.released.items))
-  drafted_released (Ok d) h = ready_released root count us y states (record { sound = sound; batch = batch; sized = h.sized; allocated = allocated_of root m states is allocated }) d h m is
-  drafted_released (Err e) h = tt
+  pub drafted_released : (d : Draft) (r : Result (Unit {0}) Refusal) → OnOk r (IsDraft (whole root) us y states d) → OnOk r (AreReleased m (changes_of us) y (map dead_block d.released.items))
+  drafted_released d (Ok u) h = ready_released root count us y states (record { sound = sound; batch = batch; sized = h.sized; allocated = allocated_of root m states is allocated }) d h m is
+  drafted_released d (Err e) h = tt
 
 module _ (root : Option (Arc Root Global)) (count : ℕ) (sound : IsSoundTree root count) (m : Map) (is : map_of (root_forest root) ≡ m) (us : List Update) (g y : ℕ) (states : List BlockState) (d : Draft)
     (asks : AllowsChange m us g y states) (of : IsDraftOf m us y states d) where

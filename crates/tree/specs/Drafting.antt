@@ -13,7 +13,6 @@ use Rattle.batch.specs.Draft.{IsDraft}
 use Rattle.batch.specs.Updates.{changes_of}
 use Rattle.tree.specs.Asking.{AllowsChange}
 use Rattle.tree.specs.ChangeParts.{HasChanged}
-use Rattle.tree.specs.declared.change.Changed.{Changed}
 
 -- the draft of a batch on a map, by the nodes of a tree that has the map (profile)
 pub record IsDraftOf (m : Map) (us : List Update) (young : ℕ) (states : List BlockState) (d : Draft) : Type 0 where
@@ -30,7 +29,7 @@ pub record CanPut (m : Map) (us : List Update) (g : ℕ) (d : Draft) : Type 0 wh
   pub asks : AllowsChange m us g young states
   pub is : IsDraftOf m us young states d
 
--- the change of a draft is in force between the maps before and after, and this is what it has done (profile)
-pub record HasPut (old new : Map) (us : List Update) (g : ℕ) (d : Draft) (done : Changed) : Type 0 where
+-- the change of a draft is in force between the maps before and after, and this is what the draft then holds (profile)
+pub record HasPut (old new : Map) (us : List Update) (g : ℕ) (d done : Draft) : Type 0 where
   pub changed : (young : ℕ) (states : List BlockState) → AllowsChange old us g young states → IsDraftOf old us young states d → HasChanged old new (changes_of us) g young states done
   pub released : done.released.items ≡ d.released.items

@@ -4,6 +4,7 @@ pub use Rattle.batch.specs.Updates
 pub mod Asking
 pub mod Taking
 pub mod Reading
+pub mod Ahead
 pub mod Change
 pub mod Drafting
 pub mod ChangeParts

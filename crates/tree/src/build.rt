@@ -1,6 +1,5 @@
 //! The nodes that a batch of changes makes.
-ghost use Rattle.std.specs.Prelude.{◌≡◌, suc, ◌+◌, ◌-◌, ◌*◌, ◌^◌, ◌<◌, ◌≤◌, IfOk, OnOk, OnErr, IsTrue, Option, Some, None, is_some, false, slice_index_or, length, map};
-ghost use Rattle.base.specs.declared.refusal.Refusal.{Refusal};
+ghost use Rattle.std.specs.Prelude.{◌≡◌, suc, ◌+◌, ◌-◌, ◌*◌, ◌^◌, ◌<◌, ◌≤◌, IfOk, OnOk, IsTrue, Option, Some, None, is_some, false, slice_index_or, length, map};
 ghost use Rattle.base.specs.Counting.{counted};
 ghost use Rattle.base.specs.Surveys.{AreDifferent};
 ghost use Rattle.node.specs.Kid.{IsSoundKid, places_of};
@@ -12,10 +11,9 @@ ghost use Rattle.batch.specs.Build.{made_keys, parts, rebuilt, number_of, no_blo
 
 use base::meter::Meter;
 use base::number::{BlockNo, Group};
-use base::refusal::Refusal;
 use batch::{NewBlock, Update, Way, Word, is_idle, split_at_leaf, way_of, word_of};
 use node::{Inner, Leaf, Level, Pair, keep, no_kids, owner_at, owner_count, replace_kid, span};
-use std::alloc::Global;
+use std::alloc::{AllocError, Global};
 use std::sync::Arc;
 
 /// A part of a tree after a batch: whether it was touched, whether it stays, and how many of the new blocks have been made so far.
@@ -70,7 +68,7 @@ pub trait Build: Level + Drop {
         made: &[NewBlock],
         next: usize,
         meter: &mut Meter,
-    ) -> Result<Built<Self>, Refusal>
+    ) -> Result<Built<Self>, AllocError>
         requires level { level ≡ Self.height }
         requires within { (index + 1) * 16 ^ level ≤ 1048576 }
         requires low { level ≤ 5 }
@@ -84,8 +82,7 @@ pub trait Build: Level + Drop {
         ensures next { IfOk result (λ b. b.next ≡ next + length (made_keys (said updates.now) Self.height index (part_of_owner Self.part old.entry))) }
         ensures metered { OnOk result (counted meter.old (length (dropped (said updates.now) 0 Self.height index (part_of_owner Self.part old.entry))) ≤ meter.new) }
         ensures metered_made { IfOk result (λ b. counted meter.old (b.next - next) ≤ meter.new) }
-        ensures never_lower { meter.old ≤ meter.new }
-        ensures err { OnErr result (result ≡ Err Refusal.NoMemory) };
+        ensures never_lower { meter.old ≤ meter.new };
 }
 
 impl Build for Leaf {
@@ -99,7 +96,7 @@ impl Build for Leaf {
         made: &[NewBlock],
         next: usize,
         meter: &mut Meter,
-    ) -> Result<Built<Leaf>, Refusal> {
+    ) -> Result<Built<Leaf>, AllocError> {
         reach(meter);
         let present = old.is_some();
         match word_of(updates, index) {
@@ -139,7 +136,7 @@ fn build_kid<C: Build>(
     made: &[NewBlock],
     next: usize,
     meter: &mut Meter,
-) -> Result<Built<C>, Refusal>
+) -> Result<Built<C>, AllocError>
     requires level { level ≡ C.height }
     requires within { (index + 1) * 16 ^ level ≤ 1048576 }
     requires low { level ≤ 5 }
@@ -154,7 +151,6 @@ fn build_kid<C: Build>(
     ensures metered { OnOk result (counted meter.old (length (dropped (said updates.now) 0 C.height index (part_of_owner C.part old.entry))) ≤ meter.new) }
     ensures metered_made { IfOk result (λ b. counted meter.old (b.next - next) ≤ meter.new) }
     ensures never_lower { meter.old ≤ meter.new }
-    ensures err { OnErr result (result ≡ Err Refusal.NoMemory) }
 {
     let present = old.is_some();
     if is_idle(updates, present) {
@@ -180,7 +176,7 @@ fn build_kids<C: Build>(
     made: &[NewBlock],
     next: usize,
     meter: &mut Meter,
-) -> Result<BuiltKids<C>, Refusal>
+) -> Result<BuiltKids<C>, AllocError>
     requires level { level ≡ C.height }
     requires within { (first + 16) * 16 ^ level ≤ 1048576 }
     requires low { level ≤ 5 }
@@ -195,7 +191,6 @@ fn build_kids<C: Build>(
     ensures metered { OnOk result (counted meter.old (length (later_first (dropped (said updates.now) 0 C.height) first (places_of (part_of_owner (inner_part C.part) old.entry)))) ≤ meter.new) }
     ensures metered_made { IfOk result (λ b. counted meter.old (b.next - next) ≤ meter.new) }
     ensures never_lower { meter.old ≤ meter.new }
-    ensures err { OnErr result (result ≡ Err Refusal.NoMemory) }
 {
     let mut kids = no_kids();
     let mut any_touched = false;
@@ -234,7 +229,7 @@ fn grow<C: Build>(
     made: &[NewBlock],
     next: usize,
     meter: &mut Meter,
-) -> Result<Built<Inner<C>>, Refusal>
+) -> Result<Built<Inner<C>>, AllocError>
     requires absent { is_some old ≡ false }
     requires way { IsWay (said updates.now) (level - 1) index way.place way.writes }
     requires writes { IsTrue way.writes }
@@ -252,7 +247,6 @@ fn grow<C: Build>(
     ensures metered { OnOk result (counted meter.old (length (dropped (said updates.now) 0 (suc C.height) index (part_of_owner (inner_part C.part) old.entry))) ≤ meter.new) }
     ensures metered_made { IfOk result (λ b. counted meter.old (b.next - next) ≤ meter.new) }
     ensures never_lower { meter.old ≤ meter.new }
-    ensures err { OnErr result (result ≡ Err Refusal.NoMemory) }
 {
     reach(meter);
     let mut kids = no_kids();
@@ -289,7 +283,7 @@ impl<C: Build> Build for Inner<C> {
         made: &[NewBlock],
         next: usize,
         meter: &mut Meter,
-    ) -> Result<Built<Inner<C>>, Refusal> {
+    ) -> Result<Built<Inner<C>>, AllocError> {
         let present = old.is_some();
         if is_idle(updates, present) {
             return Ok(Built {

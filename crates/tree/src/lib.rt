@@ -4,7 +4,6 @@
 mod ahead;
 mod block;
 mod build;
-mod change;
 mod copy;
 pub mod objset;
 mod reading;
@@ -16,7 +15,6 @@ mod tree;
 
 pub use batch::{Draft, Forecast, NewBlock, Update};
 pub use block::{Block, Root};
-pub use change::Changed;
 pub use node::Cell;
 pub use subtree::Subtree;
 pub use tree::{Tree, take_all};

@@ -90,6 +90,6 @@ impl Tree {
         ensures metered { OnOk result (CountsDropped self.now (changes_of updates.now) meter.old meter.new) }
         ensures never_lower { meter.old ≤ meter.new }
     {
-        forecast_of(alloc, &self.root, updates, meter)
+        Ok(forecast_of(alloc, &self.root, updates, meter)?)
     }
 }

@@ -1,7 +1,6 @@
 //! The nodes that a batch of changes makes. Nodes that have no other owner are changed in place.
 ghost use Rattle.std.specs.Prelude.{◌≡◌, suc, ◌+◌, ◌-◌, ◌*◌, ◌^◌, ◌<◌, ◌≤◌, ◌/◌, ◌%◌, ◌⊎◌, IsTrue, IfOk, IfSome, IfNone, OnOk, OnErr, Some, None, true, length, map, slice_index_or, slice_set};
 ghost use Rattle.std.specs.Option.{OnSome};
-ghost use Rattle.base.specs.declared.refusal.Refusal.{Refusal};
 ghost use Rattle.base.specs.Counting.{counted};
 ghost use Rattle.base.specs.Surveys.{AreDifferent};
 ghost use Rattle.node.specs.Kid.{IsSoundKid};
@@ -16,10 +15,9 @@ use crate::build::{Build, number_at, reach};
 use crate::copy::own;
 use base::meter::Meter;
 use base::number::Group;
-use base::refusal::Refusal;
 use batch::{NewBlock, Update, Way, Word, way_of, word_of};
 use node::{Inner, Leaf, Level, Pair, Root, kid_at, owner_in, replace_kid};
-use std::alloc::Global;
+use std::alloc::{AllocError, Global};
 use std::sync::Arc;
 
 /// A level whose nodes can be changed in place.
@@ -39,7 +37,7 @@ pub trait Renew: Build {
         made: &[NewBlock],
         next: usize,
         meter: &mut Meter,
-    ) -> Result<Option<usize>, Refusal>
+    ) -> Result<Option<usize>, AllocError>
         requires level { level ≡ Self.height }
         requires within { (index + 1) * 16 ^ level ≤ 1048576 }
         requires low { level ≤ 5 }
@@ -54,8 +52,7 @@ pub trait Renew: Build {
         ensures metered_made { IfOk result (λ o. IfSome o (λ n. counted meter.old (n - next) ≤ meter.new)) }
         ensures never_lower { meter.old ≤ meter.new }
         ensures alike { IfOk result (λ o. IfNone o (Self.part owner.new.value ≡ Self.part owner.old.value)) }
-        ensures same { OnErr result (Self.part owner.new.value ≡ Self.part owner.old.value) }
-        ensures err { OnErr result (result ≡ Err Refusal.NoMemory) };
+        ensures same { OnErr result (Self.part owner.new.value ≡ Self.part owner.old.value) };
 }
 
 impl Renew for Leaf {
@@ -69,7 +66,7 @@ impl Renew for Leaf {
         made: &[NewBlock],
         next: usize,
         meter: &mut Meter,
-    ) -> Result<Option<usize>, Refusal> {
+    ) -> Result<Option<usize>, AllocError> {
         if let Word::Full(bytes) = word_of(updates, index) {
             if let Some(leaf) = Arc::get_mut(owner) {
                 reach(meter);
@@ -113,7 +110,7 @@ fn renew_side<C: Renew>(
     made: &[NewBlock],
     next: usize,
     meter: &mut Meter,
-) -> Result<Option<usize>, Refusal>
+) -> Result<Option<usize>, AllocError>
     requires level { level ≡ C.height }
     requires within { (index + 1) * 16 ^ level ≤ 1048576 }
     requires low { level ≤ 5 }
@@ -129,7 +126,6 @@ fn renew_side<C: Renew>(
     ensures never_lower { meter.old ≤ meter.new }
     ensures alike { IfOk result (λ o. IfNone o (part_of_slot C.part (side_of pair.new (place % 2)) ≡ part_of_slot C.part (side_of pair.old (place % 2)))) }
     ensures same { OnErr result (part_of_slot C.part (side_of pair.new (place % 2)) ≡ part_of_slot C.part (side_of pair.old (place % 2))) }
-    ensures err { OnErr result (result ≡ Err Refusal.NoMemory) }
     ensures left { ¬ (place % 2 ≡ 0) → left_of pair.new ≡ left_of pair.old }
     ensures right { place % 2 ≡ 0 → right_of pair.new ≡ right_of pair.old }
 {
@@ -175,7 +171,7 @@ fn renew_kid<C: Renew>(
     made: &[NewBlock],
     next: usize,
     meter: &mut Meter,
-) -> Result<usize, Refusal>
+) -> Result<usize, AllocError>
     requires place { place < 16 }
     requires level { level ≡ C.height }
     requires within { (index + 1) * 16 ^ level ≤ 1048576 }
@@ -191,7 +187,6 @@ fn renew_kid<C: Renew>(
     ensures metered_made { IfOk result (λ n. counted meter.old (n - next) ≤ meter.new) }
     ensures never_lower { meter.old ≤ meter.new }
     ensures same { OnErr result (part_of_slot C.part (slice_index_or (places_in kids.new) place None) ≡ part_of_slot C.part (slice_index_or (places_in kids.old) place None)) }
-    ensures err { OnErr result (result ≡ Err Refusal.NoMemory) }
     ensures beside { places_in kids.new ≡ slice_set (places_in kids.old) place (slice_index_or (places_in kids.new) place None) }
 {
     let pair = &mut kids[place / 2];
@@ -219,7 +214,7 @@ fn renew_node<C: Renew>(
     made: &[NewBlock],
     next: usize,
     meter: &mut Meter,
-) -> Result<usize, Refusal>
+) -> Result<usize, AllocError>
     requires way { IsWay (said updates.now) C.height index way.place way.writes }
     requires level { level ≡ suc C.height }
     requires within { (index + 1) * 16 ^ level ≤ 1048576 }
@@ -236,7 +231,6 @@ fn renew_node<C: Renew>(
     ensures metered_made { IfOk result (λ n. counted meter.old (n - next) ≤ meter.new) }
     ensures never_lower { meter.old ≤ meter.new }
     ensures same { OnErr result (inner_part C.part node.new ≡ inner_part C.part node.old) }
-    ensures err { OnErr result (result ≡ Err Refusal.NoMemory) }
 {
     reach(meter);
     let at = renew_kid(
@@ -268,7 +262,7 @@ impl<C: Renew> Renew for Inner<C> {
         made: &[NewBlock],
         next: usize,
         meter: &mut Meter,
-    ) -> Result<Option<usize>, Refusal> {
+    ) -> Result<Option<usize>, AllocError> {
         if let Some(way) = way_of(updates, level, index) {
             if surely_stays(owner, way) {
                 own(owner, alloc)?;
@@ -294,7 +288,7 @@ pub fn renew_root(
     group: Group,
     made: &[NewBlock],
     meter: &mut Meter,
-) -> Result<(), Refusal>
+) -> Result<(), AllocError>
     requires order { AreInOrder updates.now }
     requires sound { IsSoundKid 5 (whole root.old) }
     requires touched { is_touched ≡ touched (said updates.now) 5 0 (whole root.old) }
@@ -305,7 +299,6 @@ pub fn renew_root(
     ensures metered_made { OnOk result (counted meter.old (length (made_keys (said updates.now) 5 0 (whole root.old))) ≤ meter.new) }
     ensures never_lower { meter.old ≤ meter.new }
     ensures same { OnErr result (whole root.new ≡ whole root.old) }
-    ensures err { OnErr result (result ≡ Err Refusal.NoMemory) }
 {
     if !is_touched {
         return Ok(());

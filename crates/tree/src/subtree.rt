@@ -22,6 +22,7 @@ use base::meter::Meter;
 use base::number::{Dead, Group, Key};
 use base::refusal::Refusal;
 use node::{Inner, Leaf, Level, Root, keep};
+use std::alloc::AllocError;
 use std::marker::Model;
 use std::sync::Arc;
 
@@ -140,21 +141,19 @@ fn kid_of<C: Top>(kid: Option<Arc<C>>, key: Key, place: u32) -> Option<Subtree>
 }
 
 /// The subtree at a place directly below a node, by one more owner of its top; None where the place is empty.
-fn child_at<C: Top>(node: &Inner<C>, key: Key, place: u32) -> Result<Option<Subtree>, Refusal>
+fn child_at<C: Top>(node: &Inner<C>, key: Key, place: u32) -> Result<Option<Subtree>, AllocError>
     requires key { IsKey key }
     requires level { key.level ≡ suc C.height }
     requires place { place < 16 }
     requires sound { IsSound (suc C.height) (inner_part C.part node.now) }
-    ensures ok { IfOk result (λ o. o ≡ child_of (branch_at key (inner_part C.part node.now)) place) }
-    ensures err { OnErr result (result ≡ Err Refusal.NoMemory) }
+    ensures { IfOk result (λ o. o ≡ child_of (branch_at key (inner_part C.part node.now)) place) }
 {
     Ok(kid_of(keep(node.owner(place as usize))?, key, place))
 }
 
 /// Pushes a subtree, if there is one, onto the stack `tops`.
-fn push_top(top: Option<Subtree>, tops: &mut Vec<Subtree>) -> Result<(), Refusal>
-    ensures ok { OnOk result (reverse tops.new.items ≡ cons_option top (reverse tops.old.items)) }
-    ensures err { OnErr result (result ≡ Err Refusal.NoMemory) }
+fn push_top(top: Option<Subtree>, tops: &mut Vec<Subtree>) -> Result<(), AllocError>
+    ensures { OnOk result (reverse tops.new.items ≡ cons_option top (reverse tops.old.items)) }
 {
     if let Some(top) = top {
         tops.push(top)?;
@@ -164,12 +163,11 @@ fn push_top(top: Option<Subtree>, tops: &mut Vec<Subtree>) -> Result<(), Refusal
 
 /// Pushes the subtrees directly below a node onto the stack `tops`, the last place first, by one more owner of each.
 #[inline(never)]
-fn push_below<C: Top>(node: &Inner<C>, key: Key, tops: &mut Vec<Subtree>) -> Result<(), Refusal>
+fn push_below<C: Top>(node: &Inner<C>, key: Key, tops: &mut Vec<Subtree>) -> Result<(), AllocError>
     requires key { IsKey key }
     requires level { key.level ≡ suc C.height }
     requires sound { IsSound (suc C.height) (inner_part C.part node.now) }
-    ensures ok { OnOk result (reverse tops.new.items ≡ branches_below (branch_at key (inner_part C.part node.now)) ++ reverse tops.old.items) }
-    ensures err { OnErr result (result ≡ Err Refusal.NoMemory) }
+    ensures { OnOk result (reverse tops.new.items ≡ branches_below (branch_at key (inner_part C.part node.now)) ++ reverse tops.old.items) }
 {
     let mut place = 16;
     while place > 0 {
@@ -195,10 +193,9 @@ impl Node {
     }
 
     /// One more owner of the same node.
-    fn copy(&self) -> Result<Node, Refusal>
+    fn copy(&self) -> Result<Node, AllocError>
         ensures part { IfOk result (λ n. node_part n ≡ node_part self.now) }
         ensures level { IfOk result (λ n. node_level n ≡ node_level self.now) }
-        ensures err { OnErr result (result ≡ Err Refusal.NoMemory) }
     {
         match self {
             Node::Leaf(node) => Ok(Node::Leaf(Arc::try_clone(node)?)),
@@ -256,16 +253,11 @@ impl Subtree {
         self.node.block()
     }
 
-    /// The subtree at a place directly below, by one more owner of its top, or None where the place is empty. It costs one node, the top of this
-    /// subtree. NoMemory where there is none for the owner.
-    pub fn child(&self, place: u32, meter: &mut Meter) -> Result<Option<Subtree>, Refusal>
+    /// The subtree at a place directly below, by one more owner of its top, or None where the place is empty.
+    fn below(&self, place: u32) -> Result<Option<Subtree>, AllocError>
         requires { place < 16 }
-        ensures ok { IfOk result (λ child. child ≡ child_of self.now place) }
-        ensures metered { meter.new ≡ counted meter.old 1 }
-        ensures never_lower { meter.old ≤ meter.new }
-        ensures err { OnErr result (result ≡ Err Refusal.NoMemory) }
+        ensures { IfOk result (λ child. child ≡ child_of self.now place) }
     {
-        reach(meter);
         match &self.node {
             Node::Leaf(_) => Ok(None),
             Node::First(node) => child_at(node, self.key, place),
@@ -276,10 +268,22 @@ impl Subtree {
         }
     }
 
-    /// Pushes the subtrees directly below onto the stack `tops`, the last place first, by one more owner of each.
-    fn push_below(&self, tops: &mut Vec<Subtree>) -> Result<(), Refusal>
-        ensures ok { OnOk result (reverse tops.new.items ≡ branches_below self.now ++ reverse tops.old.items) }
+    /// The subtree at a place directly below, by one more owner of its top, or None where the place is empty. It costs one node, the top of this
+    /// subtree. NoMemory where there is none for the owner.
+    pub fn child(&self, place: u32, meter: &mut Meter) -> Result<Option<Subtree>, Refusal>
+        requires { place < 16 }
+        ensures ok { IfOk result (λ child. child ≡ child_of self.now place) }
+        ensures metered { meter.new ≡ counted meter.old 1 }
+        ensures never_lower { meter.old ≤ meter.new }
         ensures err { OnErr result (result ≡ Err Refusal.NoMemory) }
+    {
+        reach(meter);
+        Ok(self.below(place)?)
+    }
+
+    /// Pushes the subtrees directly below onto the stack `tops`, the last place first, by one more owner of each.
+    fn push_below(&self, tops: &mut Vec<Subtree>) -> Result<(), AllocError>
+        ensures { OnOk result (reverse tops.new.items ≡ branches_below self.now ++ reverse tops.old.items) }
     {
         match &self.node {
             Node::Leaf(_) => Ok(()),

@@ -11,7 +11,6 @@ ghost use Rattle.tree.specs.Change.{AreReleased, HasRoom, LacksRoom, CountsDropp
 ghost use Rattle.tree.specs.Drafting.{IsDraftOf, CanPut, HasPut};
 ghost use Rattle.tree.specs.Taking.{AllFree, takes};
 
-use crate::change::Changed;
 use crate::renew::renew_root;
 use base::meter::Meter;
 use base::number::{BlockNo, Group};
@@ -87,10 +86,10 @@ impl Tree {
         })
     }
 
-    /// The draft of a batch of changes: what it will make and what it will release. No node is made yet: `put` applies the draft. Blocks born
-    /// from group `young` on are young: their numbers may be used for new blocks. NoSpace where there are too few numbers for the new blocks,
-    /// NoMemory where there is no memory. It costs the nodes on the paths to the changes, each with its sixteen places. The meter counts these
-    /// nodes: it rises by at least one for each block that the change drops, and at `Err` is never lower.
+    /// Drafts a batch of changes: `draft` becomes what it will make and what it will release, and forgets what it held before. No node is made
+    /// yet: `put` applies the draft. Blocks born from group `young` on are young: their numbers may be used for new blocks. NoSpace where there
+    /// are too few numbers for the new blocks, NoMemory where there is no memory. It costs the nodes on the paths to the changes, each with its
+    /// sixteen places. The meter counts these nodes: it rises by at least one for each block that the change drops, and at `Err` is never lower.
     pub fn draft(
         &self,
         alloc: Global,
@@ -98,12 +97,13 @@ impl Tree {
         young: Group,
         allocator: &Allocator,
         meter: &mut Meter,
-    ) -> Result<Draft, Refusal>
+        draft: &mut Draft,
+    ) -> Result<(), Refusal>
         requires batch { IsBatch updates.now }
         requires allocated { AreAllocated self.now allocator.now }
-        ensures ok { IfOk result (IsDraftOf self.now updates.now young.0 allocator.now) }
+        ensures ok { OnOk result (IsDraftOf self.now updates.now young.0 allocator.now draft.new) }
         ensures unique { IsUnique self.now }
-        ensures released { IfOk result (λ d. AreReleased self.now (changes_of updates.now) young.0 (map dead_block d.released.items)) }
+        ensures released { OnOk result (AreReleased self.now (changes_of updates.now) young.0 (map dead_block draft.new.released.items)) }
         ensures room { OnOk result (HasRoom self.now (changes_of updates.now) young.0 allocator.now) }
         ensures no_space { result ≡ Err Refusal.NoSpace → LacksRoom self.now (changes_of updates.now) young.0 allocator.now }
         ensures only { IfErr result IsNoSpaceOrNoMemory }
@@ -111,14 +111,15 @@ impl Tree {
         ensures never_lower { meter.old ≤ meter.new }
     {
         draft_of(
-            alloc, &self.root, self.count, updates, young, allocator, meter,
+            alloc, &self.root, self.count, updates, young, allocator, meter, draft,
         )
     }
 
     /// Applies a draft of a batch of changes: makes new blocks, born in `group`, for the changed leaves and for all their ancestors that stay
     /// (On-Disk Specification, chapter 3). A key whose block was born from the draft's `young` on keeps that block's number. The other new
-    /// blocks have the numbers of young blocks that are released, and then Free ones. It takes no number in an allocator: the answer lists the
-    /// numbers to take. NoMemory where there is none for the nodes, and then the tree is unchanged. It costs the nodes on the paths to the
+    /// blocks have the numbers of young blocks that are released, and then Free ones. It takes no number in an allocator: the draft lists the
+    /// numbers to take, and then its new blocks in the order of their keys. NoMemory where there is none for the nodes, and then the tree is
+    /// unchanged. It costs the nodes on the paths to the
     /// changes, each with its sixteen places. A batch that is one write or one punch of a leaf changes in place the nodes that no other version
     /// of the tree shares. The meter counts the nodes that were there and the new ones; a key that has both is counted once. The meter rises by
     /// at least one for each block that the change drops, and for each that it makes; at `Err` it is never lower.
@@ -127,33 +128,28 @@ impl Tree {
         alloc: Global,
         updates: &[Update],
         group: Group,
-        mut draft: Draft,
+        draft: &mut Draft,
         meter: &mut Meter,
-    ) -> Result<Changed, Refusal>
-        requires { CanPut self.old updates.now group.0 draft }
-        ensures ok { IfOk result (HasPut self.old self.new updates.now group.0 draft) }
+    ) -> Result<(), Refusal>
+        requires { CanPut self.old updates.now group.0 draft.old }
+        ensures ok { OnOk result (HasPut self.old self.new updates.now group.0 draft.old draft.new) }
         ensures err { OnErr result (self.new ≡ self.old) }
         ensures only { OnErr result (result ≡ Err Refusal.NoMemory) }
         ensures metered { OnOk result (CountsDropped self.old (changes_of updates.now) meter.old meter.new) }
-        ensures metered_made { IfOk result (λ done. counted meter.old (length done.made.items) ≤ meter.new) }
+        ensures metered_made { OnOk result (counted meter.old (length draft.new.made.items) ≤ meter.new) }
         ensures never_lower { meter.old ≤ meter.new }
     {
-        let (touched, new_blocks) = (draft.touched, &draft.made);
         renew_root(
             &mut self.root,
             alloc,
-            touched,
+            draft.touched,
             updates,
             group,
-            new_blocks,
+            draft.made.as_slice(),
             meter,
         )?;
         self.count = draft.count;
-        draft.made.reverse();
-        Ok(Changed {
-            released: draft.released,
-            taken: draft.taken,
-            made: draft.made,
-        })
+        draft.made.as_mut_slice().reverse();
+        Ok(())
     }
 }

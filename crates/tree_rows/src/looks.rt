@@ -116,7 +116,15 @@ fn drafted(alloc: Global, rig: &Rig, updates: &[Update], when: When) -> Result<T
     if !is_batch(updates) || !is_ready(alloc, tree, allocator, when.group)? {
         return Ok(Told::Absent);
     }
-    let draft = tree.draft(alloc, updates, when.young, allocator, &mut meter())?;
+    let mut draft = Draft::new(alloc);
+    tree.draft(
+        alloc,
+        updates,
+        when.young,
+        allocator,
+        &mut meter(),
+        &mut draft,
+    )?;
     Ok(told_of(&draft, tree.node_count() as usize))
 }
 

@@ -9,7 +9,7 @@ use base::number::{BlockNo, Dead, Group};
 use base::refusal::Refusal;
 use row_machine::told::Told;
 use std::alloc::Global;
-use tree::{Changed, NewBlock, Tree, Update, take_all};
+use tree::{Draft, NewBlock, Tree, Update, take_all};
 use tree_tests::ready::{is_batch, is_ready, meter};
 use zalloc::{Allocator, BlockState};
 
@@ -87,12 +87,21 @@ fn change(
     when: When,
     allocator: &Allocator,
     nodes: &mut Meter,
-) -> Result<Changed, Refusal>
+) -> Result<Draft, Refusal>
     requires { AllowsChange tree.old updates.now when.group.0 when.young.0 allocator.now }
     ensures { IfOk result (λ done. AreDifferent (map (λ b. b.0) done.taken.items)) }
 {
-    let draft = tree.draft(alloc, updates, when.young, allocator, &mut meter())?;
-    tree.put(alloc, updates, when.group, draft, nodes)
+    let mut draft = Draft::new(alloc);
+    tree.draft(
+        alloc,
+        updates,
+        when.young,
+        allocator,
+        &mut meter(),
+        &mut draft,
+    )?;
+    tree.put(alloc, updates, when.group, &mut draft, nodes)?;
+    Ok(draft)
 }
 
 impl Rig {
@@ -144,8 +153,8 @@ impl Rig {
             return Ok(Told::Absent);
         }
         let done = change(alloc, &mut self.tree, updates, when, &self.allocator, nodes)?;
-        let is_right = self.is_settled(&done.released, &done.taken, when.young)
-            && are_made(&self.tree, &done.made, when.group);
+        let is_right = self.is_settled(done.released.as_slice(), done.taken.as_slice(), when.young)
+            && are_made(&self.tree, done.made.as_slice(), when.group);
         Ok(if is_right {
             Told::Three(
                 done.taken.len() as u64,

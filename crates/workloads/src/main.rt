@@ -1,17 +1,40 @@
-//! Work for the benchmark that no script asks for: `workloads NAME ROUNDS` does the named work so many times, and prints how many
-//! entries, blocks or numbers it has reached. Status 2 is a bad command line, 3 want of memory or a failed write.
+//! Work for the benchmarks that no script asks for: `workloads NAME COUNT ..` does each named work so many times, and prints for each a line:
+//! how many entries, blocks, numbers or calls it has reached.
+//!
+//! - `push`, `copy`, `take-at-cut` and `take-between` are of dead lists, `batch` and `walk` of trees, `take-and-release` of block numbers.
+//! - `apply`, `one`, `four` and `batches` write so many blocks of 512 bytes to a fresh pool: the pool alone, one caller of a session, four callers
+//!   in threads of their own, and these four with sixteen writes a batch.
+//! - `views` and `beside` read a snapshot of 100,000 blocks so often through a view, by four threads, alone or beside a fifth that writes as long
+//!   as they read.
+//!
+//! Status 2 is a bad command line, 3 want of memory or a failed write.
 #![tactic(auto)]
 
+mod batches;
+mod callers;
 mod lists;
 mod numbers;
 mod trees;
+mod viewers;
+mod writes;
 
+use crate::callers::Callers;
 use base::refusal::Refusal;
+use session::Pool;
 use std::alloc::Global;
 use std::env;
+use std::marker::Brand;
 use std::process::ExitCode;
+use std::sync::Wait;
+use std::thread::Threads;
 
-/// What to do, and how often.
+/// How many blocks a pool has.
+const BLOCKS: u32 = 4_194_304;
+
+/// How many works a command line may name.
+const MOST_WORKS: usize = 8;
+
+/// What to do.
 #[derive(Clone, Copy)]
 enum Work {
     Push,
@@ -21,6 +44,9 @@ enum Work {
     Batch,
     Walk,
     TakeAndRelease,
+    Apply,
+    Session(Callers),
+    Viewers { beside: bool },
 }
 
 impl Work {
@@ -33,41 +59,72 @@ impl Work {
             "batch" => Some(Work::Batch),
             "walk" => Some(Work::Walk),
             "take-and-release" => Some(Work::TakeAndRelease),
+            "apply" => Some(Work::Apply),
+            "one" => Some(Work::Session(Callers::One)),
+            "four" => Some(Work::Session(Callers::Four)),
+            "batches" => Some(Work::Session(Callers::FourBatched)),
+            "views" => Some(Work::Viewers { beside: false }),
+            "beside" => Some(Work::Viewers { beside: true }),
             _ => None,
         }
     }
 
-    fn run(self, alloc: Global, rounds: u32) -> Result<u64, Refusal> {
+    /// Does it so many times: how much was reached.
+    fn run<R: Threads + Wait + Sync>(
+        self,
+        rt: &R,
+        alloc: Global,
+        count: u32,
+    ) -> Result<u64, Refusal> {
         match self {
-            Work::Push => lists::push(alloc, rounds),
-            Work::Copy => lists::copy(alloc, rounds),
-            Work::TakeAtCut => lists::take(alloc, rounds, lists::AT_CUT),
-            Work::TakeBetween => lists::take(alloc, rounds, lists::BETWEEN_CUTS),
-            Work::Batch => trees::batch(alloc, rounds),
-            Work::Walk => trees::walk(alloc, rounds),
-            Work::TakeAndRelease => numbers::take_and_release(alloc, rounds),
+            Work::Push => lists::push(alloc, count),
+            Work::Copy => lists::copy(alloc, count),
+            Work::TakeAtCut => lists::take(alloc, count, lists::AT_CUT),
+            Work::TakeBetween => lists::take(alloc, count, lists::BETWEEN_CUTS),
+            Work::Batch => trees::batch(alloc, count),
+            Work::Walk => trees::walk(alloc, count),
+            Work::TakeAndRelease => numbers::take_and_release(alloc, count),
+            Work::Apply => Ok(u64::from(writes::applied(
+                alloc,
+                Pool::create(alloc, 1, BLOCKS)?,
+                count,
+            )?)),
+            Work::Session(callers) => {
+                let pool = Pool::create(alloc, 1, BLOCKS)?;
+                let done = callers::called::<Brand, _>(rt, alloc, pool, count, callers)?;
+                Ok(u64::from(done))
+            }
+            Work::Viewers { beside } => {
+                let pool = Pool::create(alloc, 1, BLOCKS)?;
+                let done = viewers::viewed::<Brand, _>(rt, alloc, pool, count, beside)?;
+                Ok(u64::from(done))
+            }
         }
     }
 }
 
-/// The work of the command line, if it names one.
-fn work_of(rt: &HostRuntime) -> Option<(Work, u32)> {
-    let mut words = env::args(rt).ok()?;
-    let _program = words.next()?;
-    let name = words.next()?;
-    let rounds = words.next()?;
-    Some((Work::named(name.as_str())?, rounds.as_str().parse().ok()?))
-}
-
 fn main(rt: HostRuntime) -> ExitCode {
-    let Some((work, rounds)) = work_of(&rt) else {
-        return ExitCode::from(2);
-    };
-    let Ok(reached) = work.run(rt.alloc(), rounds) else {
+    let Ok(mut words) = env::args(&rt) else {
         return ExitCode::from(3);
     };
-    match println!(rt; "{reached}") {
-        Ok(()) => ExitCode::SUCCESS,
-        Err(_) => ExitCode::from(3),
+    let _program = words.next();
+    for _ in 0..MOST_WORKS {
+        let Some(name) = words.next() else {
+            return ExitCode::SUCCESS;
+        };
+        let count = match words.next() {
+            Some(count) => count.as_str().parse().ok(),
+            None => None,
+        };
+        let (Some(work), Some(count)) = (Work::named(name.as_str()), count) else {
+            return ExitCode::from(2);
+        };
+        let Ok(reached) = work.run(&rt, rt.alloc(), count) else {
+            return ExitCode::from(3);
+        };
+        if println!(rt; "{reached}").is_err() {
+            return ExitCode::from(3);
+        }
     }
+    ExitCode::SUCCESS
 }

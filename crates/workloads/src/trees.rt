@@ -4,7 +4,7 @@ ghost use Rattle.std.specs.Prelude.{◌≤◌};
 use base::number::Group;
 use base::refusal::Refusal;
 use std::alloc::Global;
-use tree::{Tree, Update};
+use tree::{Draft, Tree, Update};
 use tree_tests::ready::{is_batch, is_ready, meter};
 use zalloc::{Allocator, MOST_BLOCKS};
 
@@ -35,8 +35,16 @@ fn full_tree(alloc: Global, updates: &[Update], numbers: u32) -> Result<Tree, Re
     if !is_batch(updates) || !is_ready(alloc, &tree, &allocator, Group(1))? {
         return Err(Refusal::BadKey);
     }
-    let draft = tree.draft(alloc, updates, Group(1), &allocator, &mut meter())?;
-    tree.put(alloc, updates, Group(1), draft, &mut meter())?;
+    let mut draft = Draft::new(alloc);
+    tree.draft(
+        alloc,
+        updates,
+        Group(1),
+        &allocator,
+        &mut meter(),
+        &mut draft,
+    )?;
+    tree.put(alloc, updates, Group(1), &mut draft, &mut meter())?;
     Ok(tree)
 }
 

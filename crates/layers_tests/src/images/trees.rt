@@ -9,7 +9,7 @@ use base::refusal::Refusal;
 use image::{Image, blocks_of};
 use std::alloc::Global;
 use std::process::Abort;
-use tree::{Block, Changed, Tree, Update};
+use tree::{Block, Draft, Tree, Update};
 use tree_tests::ready::{is_batch, is_ready, meter};
 use zalloc::{Allocator, BlockState};
 
@@ -37,11 +37,13 @@ fn change(
     bytes: &[u8; 512],
     group: Group,
     allocator: &Allocator,
-) -> Result<Changed, Refusal> {
+) -> Result<Draft, Refusal> {
     let updates = [Update::Write { leaf: 0, bytes }];
     assert_asked(rt, alloc, tree, &updates, group, allocator)?;
-    let draft = tree.draft(alloc, &updates, group, allocator, &mut meter())?;
-    tree.put(alloc, &updates, group, draft, &mut meter())
+    let mut draft = Draft::new(alloc);
+    tree.draft(alloc, &updates, group, allocator, &mut meter(), &mut draft)?;
+    tree.put(alloc, &updates, group, &mut draft, &mut meter())?;
+    Ok(draft)
 }
 
 /// Takes a number, if it is Free.
@@ -88,7 +90,7 @@ fn step(
     for number in done.taken.as_slice() {
         occupy(allocator, *number);
     }
-    let blocks = blocks_of(alloc, tree, &done.made, &mut meter())?;
+    let blocks = blocks_of(alloc, tree, done.made.as_slice(), &mut meter())?;
     assert!(rt; blocks.len() == done.made.len() && are_open(image, blocks.as_slice()));
     image.write_all(blocks.as_slice());
     Ok(())

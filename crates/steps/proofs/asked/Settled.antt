@@ -9,7 +9,7 @@ use Rattle.std.specs.FinSet as set
 use Rattle.base.specs.Rewrite.{Changes, rewrite}
 use Rattle.zalloc.specs.declared.BlockState.{BlockState}
 use Rattle.tree.specs.Change.{IsChange}
-use Rattle.tree.specs.declared.change.Changed.{Changed}
+use Rattle.batch.specs.declared.draft.Draft.{Draft}
 use Rattle.model.specs.World.{World, FileSystem, Live}
 use Rattle.model.specs.Hierarchy.{FileSystems}
 use Rattle.model.specs.State.{State}
@@ -37,7 +37,7 @@ use Rattle.steps.specs.Limiting.{Foretells, CanSettle}
 use Rattle.limits.specs.declared.line.Line.{Line}
 use Rattle.steps.proofs.quotas.Foretold.{here_alike, referenced_alike, changed_keys}
 
-module _ (s : State) (steady : IsSteady s) (numbers : List BlockState) (known : HasStates s numbers) (name : Name) (ch : Changes) (to : Datasets) (done : Changed)
+module _ (s : State) (steady : IsSteady s) (numbers : List BlockState) (known : HasStates s numbers) (name : Name) (ch : Changes) (to : Datasets) (done : Draft)
     (w : HasWritten (datasets_of s) to name ch s.last.group numbers done) (after : IsSteady (with_datasets s to)) where
   abbrev young : ℕ
   young = young_of (datasets_of s) name s.last.group

@@ -18,7 +18,7 @@ use Rattle.zalloc.specs.declared.BlockState.TheVariants.{Free}
 use Rattle.zalloc.specs.States.{is_free}
 use Rattle.batch.specs.declared.update.Update.{Update}
 use Rattle.batch.specs.Updates.{IsBatch}
-use Rattle.tree.specs.declared.change.Changed.{Changed}
+use Rattle.batch.specs.declared.draft.Draft.{Draft}
 use Rattle.tree.specs.Change.{Shown, IsChange, young_count}
 use Rattle.datasets.specs.Rows.{live_of}
 use Rattle.datasets.specs.Writes.{young_of, AllowsWrite, HasWritten}
@@ -174,7 +174,7 @@ module _ (s : State) (good : IsPoolState s) (numbers : List BlockState) (known :
 
   -- ---- a batch that is in force
 
-  module _ (to : Datasets) (done : Changed) (w : HasWritten (datasets_of s) to name ch s.last.group numbers done) where
+  module _ (to : Datasets) (done : Draft) (w : HasWritten (datasets_of s) to name ch s.last.group numbers done) where
     abbrev v : Shown
     v = w.change
 

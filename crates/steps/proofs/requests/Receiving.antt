@@ -18,7 +18,7 @@ use Rattle.stream.specs.Spelling.{Sending, IsStream, IsNoStream}
 use Rattle.zalloc.specs.declared.BlockState.{BlockState}
 use Rattle.zalloc.specs.declared.BlockState.TheVariants.{Free}
 use Rattle.zalloc.specs.States.{is_free}
-use Rattle.tree.specs.declared.change.Changed.{Changed}
+use Rattle.batch.specs.declared.draft.Draft.{Draft}
 use Rattle.tree.specs.Change.{HasRoom, LacksRoom, young_count}
 use Rattle.tree.specs.Taking.{takes, AllFree}
 use Rattle.datasets.specs.Rows.{live_of, with_snap}
@@ -247,7 +247,7 @@ module _ (s : State) (steady : IsSteady s) (numbers : List BlockState) (known : 
 
   -- ---- the records in force, and the snapshot
 
-  module _ (written to : Datasets) (done : Changed) (change : HasWritten (datasets_of begun) written name ch s.last.group numbers done)
+  module _ (written to : Datasets) (done : Draft) (change : HasWritten (datasets_of begun) written name ch s.last.group numbers done)
       (kept : to ≡ with_snap_at (record written { group = written.group + 1 }) name m.component sent.target written.group)
       (freeing : BlockSet) (freeing_is : freeing ≡ w.freeing) where
     abbrev mid : State

@@ -10,7 +10,7 @@ use Rattle.base.specs.declared.name.member.Member.{Member}
 use Rattle.stream.specs.Records.{changes_of as changes_of_records}
 use Rattle.stream.specs.Spelling.{Sending, IsStream}
 use Rattle.stream.specs.declared.record.Record.{Record}
-use Rattle.tree.specs.declared.change.Changed.{Changed}
+use Rattle.batch.specs.declared.draft.Draft.{Draft}
 use Rattle.tree.specs.Asking.{IsNoSpaceOrNoMemory}
 use Rattle.tree.specs.Change.{HasRoom, LacksRoom}
 use Rattle.datasets.specs.Rows.{live_of}
@@ -162,9 +162,9 @@ module _ (s : State) (p : Present) (m : Member) (sent : Sending) (mode : Receivi
           which
 
       -- and those that are
-      pub finished : (to : Datasets) (done : Changed) → HasReceived edit.to to m sent.target (changes_of us) p.synced.0 p.allocator.now done
+      pub finished : (to : Datasets) (done : Draft) → HasReceived edit.to to m sent.target (changes_of us) p.synced.0 p.allocator.now done
           → HasRoom (live_of edit.to.file_systems m.file_system) (changes_of us) (young_of edit.to m.file_system p.synced.0) p.allocator.now
-          → IsIntakeOf s m bytes mode (record { to = to; freeing = edit.freeing; done = done })
+          → IsIntakeOf s m bytes mode (record { to = to; freeing = edit.freeing }) done
       finished to done r room =
           let change = subst (λ (x : Datasets × ℕ × Changes). HasWritten x.0 r.written m.file_system x.2 x.1 p.allocator.now done) (λ i. (to_is i, sym way.present.synced i, way.changes i)) r.change in
           let none = by_limits (λ e. e) (λ bare. receive_fits s way.present.steady p.allocator.now way.present.states m sent mode way.none can_take bare (has_here room)) in

@@ -20,7 +20,7 @@ use Rattle.zalloc.specs.declared.BlockState.{BlockState}
 use Rattle.zalloc.specs.States.{is_free}
 use Rattle.batch.specs.declared.update.Update.{Update}
 use Rattle.batch.specs.Updates.{IsBatch}
-use Rattle.tree.specs.declared.change.Changed.{Changed}
+use Rattle.batch.specs.declared.draft.Draft.{Draft}
 use Rattle.tree.specs.Change.{IsChange, HasRoom, LacksRoom, young_count}
 use Rattle.datasets.specs.Rows.{live_of, with_live}
 use Rattle.datasets.specs.Writes.{young_of, AllowsWrite, HasWritten}
@@ -102,11 +102,11 @@ live_is : (s : State) (name : Name) (there : IsThere s name) → live_of s.now.f
 live_is s name there = ap (λ x. option_map_or (λ (f : FileSystem). f.live) x finmap.empty) there.is
 
 -- where no file system had a limit, none has one
-pub written_unlimited : (s : State) (numbers : List BlockState) (name : Name) (to : Datasets) (ch : Changes) (done : Changed)
+pub written_unlimited : (s : State) (numbers : List BlockState) (name : Name) (to : Datasets) (ch : Changes) (done : Draft)
     → HasWritten (datasets_of s) to name ch s.last.group numbers done → StaysUnlimited s to
 written_unlimited s numbers name to ch done w bare = subst (λ (t : Datasets). IsUnlimited t.file_systems) (sym w.to_is) (live_unlimited s name w.change.new bare)
 
-module _ (s : State) (steady : IsSteady s) (numbers : List BlockState) (known : HasStates s numbers) (name : Name) (to : Datasets) (ch : Changes) (done : Changed)
+module _ (s : State) (steady : IsSteady s) (numbers : List BlockState) (known : HasStates s numbers) (name : Name) (to : Datasets) (ch : Changes) (done : Draft)
     (w : HasWritten (datasets_of s) to name ch s.last.group numbers done) where
   abbrev young : ℕ
   young = young_of (datasets_of s) name s.last.group
@@ -145,7 +145,7 @@ module _ (s : State) (steady : IsSteady s) (numbers : List BlockState) (known : 
       → CanChange s to (map dead_block done.released.items) (map (λ n. n.0) done.taken.items)
   written_can_bare bare there = ⊎_elim (λ t. can_there t (steady_bare t bare)) (λ none. absurd (there none)) (there_or s name)
 
-pub written_can : (s : State) → IsSteady s → IsUnlimited s.now.file_systems → (numbers : List BlockState) → HasStates s numbers → (name : Name) (to : Datasets) (ch : Changes) (done : Changed)
+pub written_can : (s : State) → IsSteady s → IsUnlimited s.now.file_systems → (numbers : List BlockState) → HasStates s numbers → (name : Name) (to : Datasets) (ch : Changes) (done : Draft)
     → HasWritten (datasets_of s) to name ch s.last.group numbers done → (get s.now.file_systems name ≡ None → ⊥)
     → CanChange s to (map dead_block done.released.items) (map (λ n. n.0) done.taken.items)
 written_can s steady bare numbers known name to ch done w = written_can_bare s steady numbers known name to ch done w bare
@@ -250,7 +250,7 @@ module _ (s : State) (steady : IsSteady s) (numbers : List BlockState) (known : 
     write_refused_bare bare = by_reason (λ e. write_refused_by_limit s steady name q target named ch in_range is within (there_full e) NoSpace
         (change_short s steady numbers known name ch (there_full e) bare (lacks e)))
 
-  module _ (to : Datasets) (done : Changed) (w : HasWritten (datasets_of s) to name ch s.last.group numbers done) where
+  module _ (to : Datasets) (done : Draft) (w : HasWritten (datasets_of s) to name ch s.last.group numbers done) where
     done_there : first_of (limit_row (asked_by_change s name ch)) ≡ None → IsThere s name → Step s q Done (with_datasets s to)
     done_there fits there =
         let change = change_is s steady numbers known name to ch done w there in
@@ -276,7 +276,7 @@ module _ (s : State) (steady : IsSteady s) (bare : IsUnlimited s.now.file_system
       → (why ≡ NoDataset) ⊎ ((why ≡ NoSpace) ⊎ (why ≡ NoMemory)) → Step s q (Refused why) s
   write_refused why tells lacks which = write_refused_bare s steady numbers known name q target named ch in_range is within why tells lacks which bare
 
-  module _ (to : Datasets) (done : Changed) (w : HasWritten (datasets_of s) to name ch s.last.group numbers done) where
+  module _ (to : Datasets) (done : Draft) (w : HasWritten (datasets_of s) to name ch s.last.group numbers done) where
     -- a write in force, to a file system that is there
     pub written_done : HasRoom (live_of s.now.file_systems name) ch (young_of (datasets_of s) name s.last.group) numbers → (get s.now.file_systems name ≡ None → ⊥)
         → Step s q Done (with_datasets s to)

@@ -4,7 +4,7 @@
 //! yuz-host session SCRIPT REPLIES     answers the lines of a script, and compares the replies
 //! yuz-host calls                      makes each call of the library, and compares what it tells
 //! yuz-host writes COUNT               writes so many blocks of 512 bytes, and prints the seconds
-//! yuz-host apply COUNT                writes as many and does nothing else, as `session_workloads apply`: bench/hosts.py times it
+//! yuz-host apply COUNT                writes as many and does nothing else, as `workloads apply`: bench/hosts.py times it
 //! yuz-host streams                    sends a snapshot from one pool, and receives it in another
 //! yuz-host memory                     refuses each request for memory of each call in turn
 //! yuz-host threads                    hands pools from thread to thread, and shares one under a lock
@@ -90,7 +90,7 @@ fn session(script: &str, replies: &str) -> Outcome {
 /// How many blocks the pools have that so many are written to.
 const BLOCKS: u32 = 4_194_304;
 
-/// The same writes as `session_workloads apply`.
+/// The same writes as `workloads apply`.
 fn write_numbers(pool: &mut Pool, count: u64) -> Result<(), Error> {
     for number in 0..count {
         let leaf = (number * 7919 % 1_048_576) as u32;

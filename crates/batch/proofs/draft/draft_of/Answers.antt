@@ -58,46 +58,46 @@ module _ (c : After-number_way) where
   none_young : count_by (is_young y) (released s y 5 0 o) ≡ 0
   none_young = ap (count_by (is_young y)) way_gone ∙ way_old y blocks
 
-pub draft-requires-clause-few : goal.draft-requires-clause-few
-draft-requires-clause-few c =
-    let a = (goal.at.draft-requires-clause-few c).After-number_way in
-    let f = few _ _ _ _ _ (ready_way a) in let n = ap length (c.in_ok-lists.ensures.released ∙ sym (way_gone a)) in
+pub counted-requires-clause-few : goal.counted-requires-clause-few
+counted-requires-clause-few c =
+    let a = (goal.at.counted-requires-clause-few c).After-number_way in
+    let f = few _ _ _ _ _ (ready_way a) in let n = ap length (c.in_ok-number_way.ensures.released ∙ sym (way_gone a)) in
     omega (arith, f, n)
 
-pub draft-requires-clause-fits : goal.draft-requires-clause-fits
-draft-requires-clause-fits c =
-    let a = (goal.at.draft-requires-clause-fits c).After-number_way in
-    let b = new_bound _ _ _ _ _ (ready_way a) in let n = ap length (c.in_ok-lists.ensures.released ∙ sym (way_gone a)) in
-    let t = c.in_ok-lists.ensures.numbered.1.enough ∙ sym (way_need a) in
+pub counted-requires-clause-fits : goal.counted-requires-clause-fits
+counted-requires-clause-fits c =
+    let a = (goal.at.counted-requires-clause-fits c).After-number_way in
+    let b = new_bound _ _ _ _ _ (ready_way a) in let n = ap length (c.in_ok-number_way.ensures.released ∙ sym (way_gone a)) in
+    let t = c.in_ok-number_way.ensures.numbered.1.enough ∙ sym (way_need a) in
     omega (arith, b, n, t)
 
-pub draft-requires-clause-low : goal.draft-requires-clause-low
-draft-requires-clause-low c = let b = old_bound _ _ _ _ _ (ready_way (goal.at.draft-requires-clause-low c).After-number_way) in omega (arith, b)
+pub counted-requires-clause-low : goal.counted-requires-clause-low
+counted-requires-clause-low c = let b = old_bound _ _ _ _ _ (ready_way (goal.at.counted-requires-clause-low c).After-number_way) in omega (arith, b)
 
 pub returns-in-Some-clause-ok : goal.returns-in-Some-clause-ok
 returns-in-Some-clause-ok c =
     let a = (goal.at.returns-in-Some-clause-ok c).After-number_way in
-    let p = c.in_ok-lists.ensures.numbered in
-    let taken = ap (λ v. v.items) c.draft.ensures.taken in
-    let gone = ap (λ v. v.items) c.draft.ensures.released in
+    let p = c.in_ok-number_way.ensures.numbered in
+    let taken = ap (λ v. v.items) c.counted.ensures.taken in
+    let gone = ap (λ v. v.items) c.counted.ensures.released in
     record {
       sized = c.write_count.ensures.sized;
-      touched = c.draft.ensures.touched ∙ is_touched a;
-      released = gone ∙ c.in_ok-lists.ensures.released ∙ sym (way_gone a);
+      touched = c.counted.ensures.touched ∙ is_touched a;
+      released = gone ∙ c.in_ok-number_way.ensures.released ∙ sym (way_gone a);
       enough = ap length taken ∙ p.1.enough ∙ sym (way_need a);
-      at_hand = λ n h. inl (numbered_free _ c.args.allocator.now p.0 c.in_ok-lists.lists p.1 n (subst (λ (bs : List BlockNo). IsIn (numbers bs) n) taken h));
-      once = subst (λ (bs : List BlockNo). AreDifferent (numbers bs)) (sym taken) (numbered_once _ c.args.allocator.now p.0 c.in_ok-lists.lists p.1);
-      made = ap (λ v. v.items) c.draft.ensures.made ∙ p.1.made ∙ (λ i. filled (sym (claimed a) i) (sym taken i));
+      at_hand = λ n h. inl (numbered_free _ c.args.allocator.now p.0 c.number_way.new.draft p.1 n (subst (λ (bs : List BlockNo). IsIn (numbers bs) n) taken h));
+      once = subst (λ (bs : List BlockNo). AreDifferent (numbers bs)) (sym taken) (numbered_once _ c.args.allocator.now p.0 c.number_way.new.draft p.1);
+      made = ap (λ v. v.items) c.counted.ensures.made ∙ p.1.made ∙ (λ i. filled (sym (claimed a) i) (sym taken i));
       counted =
-          let k = ready_count _ _ _ _ _ (ready_way a) in let d = c.draft.ensures.count in let t = ap length taken in let g = ap length gone in
+          let k = ready_count _ _ _ _ _ (ready_way a) in let d = c.counted.ensures.count in let t = ap length taken in let g = ap length gone in
           omega (arith, k, d, t, g);
     }
 
 pub returns-in-Some-clause-room : goal.returns-in-Some-clause-room
 returns-in-Some-clause-room c =
     let a = (goal.at.returns-in-Some-clause-room c).After-number_way in
-    let p = c.in_ok-lists.ensures.numbered in
-    let f = numbered_few _ c.args.allocator.now p.0 c.in_ok-lists.lists p.1 in
+    let p = c.in_ok-number_way.ensures.numbered in
+    let f = numbered_few _ c.args.allocator.now p.0 c.number_way.new.draft p.1 in
     let n = way_need a in
     ready_room _ _ _ _ _ (ready_way a) (omega (arith, f, n))
 
@@ -106,10 +106,10 @@ returns-in-Some-clause-metered c =
     let a = (goal.at.returns-in-Some-clause-metered c).After-number_way in
     ready_counts _ _ _ _ _ (ready_way a) _ _ (c.in-Some.ensures.metered (y a))
 
-pub returns-in_err-lists-clause-no_space : goal.returns-in_err-lists-clause-no_space
-returns-in_err-lists-clause-no_space c = λ e.
-    let a = (goal.at.returns-in_err-lists-clause-no_space c).After-number_way in
-    let l = c.in_err-lists.ensures.no_space (handed_on _ _ NoSpace c.from_residual.ensures.1 e) in
+pub returns-in_err-number_way-clause-no_space : goal.returns-in_err-number_way-clause-no_space
+returns-in_err-number_way-clause-no_space c = λ e.
+    let a = (goal.at.returns-in_err-number_way-clause-no_space c).After-number_way in
+    let l = c.in_err-number_way.ensures.no_space (handed_on _ _ NoSpace c.from_residual.ensures.1 e) in
     let n = way_need a in
     let k = none_young a in
     ready_no_room _ _ _ _ _ (ready_way a) (omega (arith, l, n, k))
@@ -142,21 +142,21 @@ returns-in_err-taken-clause-no_space c = λ e.
     let l = c.in_err-taken.ensures.no_space (handed_on _ _ NoSpace c.from_residual-in_err-taken.ensures.1 e) in
     ready_no_room _ _ _ _ _ (ready b) (omega (arith, n, k, l))
 
-pub draft-requires-2-clause-few : goal.draft-requires-2-clause-few
-draft-requires-2-clause-few c =
-    let b = (goal.at.draft-requires-2-clause-few c).After-deref-2 in
-    let f = few _ _ _ _ _ (ready b) in let n = ap length c.in_ok-findings.ensures.released in
+pub counted-requires-2-clause-few : goal.counted-requires-2-clause-few
+counted-requires-2-clause-few c =
+    let b = (goal.at.counted-requires-2-clause-few c).After-deref-2 in
+    let f = few _ _ _ _ _ (ready b) in let n = ap length (c.from_vec.ensures.items ∙ c.in_ok-findings.ensures.released) in
     omega (arith, f, n)
 
-pub draft-requires-2-clause-fits : goal.draft-requires-2-clause-fits
-draft-requires-2-clause-fits c =
-    let b = (goal.at.draft-requires-2-clause-fits c).After-deref-2 in
-    let f = new_bound _ _ _ _ _ (ready b) in let n = ap length c.in_ok-findings.ensures.released in let k = need b in let t = c.in_ok-taken.ensures.len in
+pub counted-requires-2-clause-fits : goal.counted-requires-2-clause-fits
+counted-requires-2-clause-fits c =
+    let b = (goal.at.counted-requires-2-clause-fits c).After-deref-2 in
+    let f = new_bound _ _ _ _ _ (ready b) in let n = ap length (c.from_vec.ensures.items ∙ c.in_ok-findings.ensures.released) in let k = need b in let t = ap length c.from_vec-2.ensures.items ∙ c.in_ok-taken.ensures.len in
     omega (arith, f, n, k, t)
 
-pub draft-requires-2-clause-low : goal.draft-requires-2-clause-low
-draft-requires-2-clause-low c =
-    let b = (goal.at.draft-requires-2-clause-low c).After-deref-2 in
+pub counted-requires-2-clause-low : goal.counted-requires-2-clause-low
+counted-requires-2-clause-low c =
+    let b = (goal.at.counted-requires-2-clause-low c).After-deref-2 in
     let f = old_bound _ _ _ _ _ (ready b) in
     omega (arith, f)
 
@@ -176,17 +176,18 @@ returns-clause-metered c =
 pub returns-clause-ok : goal.returns-clause-ok
 returns-clause-ok c =
     let b = (goal.at.returns-clause-ok c).After-deref-2 in
-    let taken = ap (λ v. v.items) c.draft-2.ensures.taken in
-    let left = ap (λ v. v.items) c.draft-2.ensures.released in
+    let taken = ap (λ v. v.items) c.counted-2.ensures.taken ∙ c.from_vec-2.ensures.items in
+    let left = ap (λ v. v.items) c.counted-2.ensures.released ∙ c.from_vec.ensures.items in
     record {
       sized = c.write_count.ensures.sized;
-      touched = c.draft-2.ensures.touched ∙ c.in_ok-findings.ensures.touched;
+      touched = c.counted-2.ensures.touched ∙ c.in_ok-findings.ensures.touched;
       released = left ∙ c.in_ok-findings.ensures.released;
       enough = ap length taken ∙ c.in_ok-taken.ensures.len ∙ need b;
       at_hand = λ n h. subst (λ ds. IsAtHand c.args.allocator.now c.args.young.0 ds n) (c.deref-2.ensures.value ∙ sym left) (c.in_ok-taken.ensures.at_hand n (subst (λ (bs : List BlockNo). IsIn (numbers bs) n) taken h));
       once = subst (λ (bs : List BlockNo). AreDifferent (numbers bs)) (sym taken) c.in_ok-taken.ensures.once;
-      made = ap (λ v. v.items) c.draft-2.ensures.made ∙ c.in_ok-made.ensures.ok ∙ (λ i. filled ((c.deref-3.ensures.value ∙ c.in_ok-findings.ensures.claims) i) ((c.deref-4.ensures.value ∙ sym taken) i));
+      made = ap (λ v. v.items) c.counted-2.ensures.made ∙ c.from_vec-3.ensures.items ∙ c.in_ok-made.ensures ∙ (λ i. filled ((c.deref-3.ensures.value ∙ c.in_ok-findings.ensures.claims) i) ((c.deref-4.ensures.value ∙ sym taken) i));
       counted =
-          let k = ready_count _ _ _ _ _ (ready b) in let d = c.draft-2.ensures.count in let t = ap length taken in let g = ap length left in
-          omega (arith, k, d, t, g);
+          let k = ready_count _ _ _ _ _ (ready b) in let d = c.counted-2.ensures.count in let t = ap length taken in let g = ap length left in
+          let v = ap length c.from_vec-2.ensures.items in let w = ap length c.from_vec.ensures.items in
+          omega (arith, k, d, t, g, v, w);
     }

@@ -28,7 +28,7 @@ returns-in-Some-clause-ok c =
     let bs = c.way_of_write.new.blocks in
     let claimed = c.in-Some.ensures.claims 0 in
     let none = c.in-Some.ensures.released 0 ∙ way_stays bs in
-    let kept = ap (λ ds. ds ++ kept_of (claims (said u) 0 5 0 (whole c.args.root.now))) none ∙ ap kept_of claimed ∙ way_kept c.in-Some._leaf bs c.way_of_write.array_long ∙ sym c.in_ok-dropped.ensures.ok in
+    let kept = ap (λ ds. ds ++ kept_of (claims (said u) 0 5 0 (whole c.args.root.now))) none ∙ ap kept_of claimed ∙ way_kept c.in-Some._leaf bs c.way_of_write.array_long ∙ sym c.in_ok-dropped.ensures in
     record {
       made = map claim_key (claims (said u) 0 5 0 (whole c.args.root.now));
       survey = subst (λ (ds : List Dead). IsSurvey (map_of (root_forest c.args.root.now)) (changes_of u) (map dead_block ds) (map claim_key (claims (said u) 0 5 0 (whole c.args.root.now)))) kept
@@ -50,7 +50,7 @@ pub returns-clause-ok : goal.returns-clause-ok
 returns-clause-ok c =
     let u = c.args.updates.now in
     let claimed = c.in_ok-findings.ensures.claims in
-    let kept = c.in_ok-add_kept.ensures.ok ∙ (λ i. (c.reserve.ensures.items ∙ c.in_ok-findings.ensures.released) i ++ kept_of ((c.deref.ensures.value ∙ claimed) i)) in
+    let kept = c.in_ok-add_kept.ensures ∙ (λ i. (c.reserve.ensures.items ∙ c.in_ok-findings.ensures.released) i ++ kept_of ((c.deref.ensures.value ∙ claimed) i)) in
     record {
       made = map claim_key (claims (said u) 0 5 0 (whole c.args.root.now));
       survey = subst (λ (ds : List Dead). IsSurvey (map_of (root_forest c.args.root.now)) (changes_of u) (map dead_block ds) (map claim_key (claims (said u) 0 5 0 (whole c.args.root.now)))) (sym kept)

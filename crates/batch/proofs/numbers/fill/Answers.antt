@@ -24,5 +24,5 @@ loop-claim-preserved c =
           }
     ]
 
-pub returns-clause-ok : goal.returns-clause-ok
-returns-clause-ok c = filled_end c.args.claims.now (drop c.loop-claim.next c.args.taken.now) c.loop-claim.claim-index c.loop-claim.out.items _ c.loop-claim-test.false c.loop-claim.invariant.got
+pub returns : goal.returns
+returns c = filled_end c.args.claims.now (drop c.loop-claim.next c.args.taken.now) c.loop-claim.claim-index c.loop-claim.out.items _ c.loop-claim-test.false c.loop-claim.invariant.got

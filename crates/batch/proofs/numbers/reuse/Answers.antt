@@ -4,8 +4,8 @@ use Rattle.batch.proofs.NumberLaws.{take_step, take_full, take_none, young_here,
 use Rattle.batch.proofs.numbers.reuse.Goals as goal
 use Rattle.batch.proofs.numbers.reuse.Goals.{then-dead-young+in_ok-push, else-dead-young}
 
-pub returns-then-len-need-clause-ok : goal.returns-then-len-need-clause-ok
-returns-then-len-need-clause-ok c =
+pub returns-then-len-need : goal.returns-then-len-need
+returns-then-len-need c =
     sym (take_full c.args.need (length c.loop-dead.out.items) (numbers c.loop-dead.out.items) _ (omega (arith, c.len.ensures, c.if-len-need.true))) ∙ c.loop-dead.invariant.got
 
 pub loop-dead-preserved : goal.loop-dead-preserved
@@ -37,6 +37,6 @@ loop-dead-preserved c =
           }
     ]
 
-pub returns-clause-ok : goal.returns-clause-ok
-returns-clause-ok c =
+pub returns : goal.returns
+returns c =
     sym (take_none _ (numbers c.loop-dead.out.items) _ (young_over c.args.young.0 c.loop-dead.dead-index c.args.released.now c.loop-dead-test.false)) ∙ c.loop-dead.invariant.got

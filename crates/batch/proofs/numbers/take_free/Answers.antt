@@ -3,8 +3,8 @@ use Rattle.batch.specs.Numbers.{numbers, frees_from}
 use Rattle.batch.proofs.NumberLaws.{take_step, take_none, frees_found, frees_none, push_number}
 use Rattle.batch.proofs.numbers.take_free.Goals as goal
 
-pub returns-in_default-clause-ok : goal.returns-in_default-clause-ok
-returns-in_default-clause-ok c =
+pub returns-in_default : goal.returns-in_default
+returns-in_default c =
     sym (take_none _ (numbers c.loop-count.out.items) _ (frees_none c.args.allocator.now c.loop-count.from c.in_default.ensures.none)) ∙ c.loop-count.invariant.got
 
 pub loop-count-preserved : goal.loop-count-preserved

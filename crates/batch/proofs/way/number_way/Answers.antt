@@ -12,14 +12,14 @@ pub loop-level-init : goal.loop-level-init
 unfolding way_claims way_released
 loop-level-init c = record {
   index = omega arith;
-  numbered = numbered_none c.args.allocator.now _ c.new-2.ensures.items c.in_ok-with_capacity.ensures.items;
-  released = c.new.ensures.items;
+  numbered = numbered_none c.args.allocator.now _ c.requires.taken c.requires.made;
+  released = c.requires.released;
 }
 
 pub returns-in_err-from-clause-no_space : goal.returns-in_err-from-clause-no_space
 returns-in_err-from-clause-no_space c = λ e.
-    let none = c.in_err-from.ensures.no_space (handed_on _ _ NoSpace c.from_residual-in_err-from.ensures.1 e) in
-    way_short c.args.young.0 c.args.leaf c.args.blocks.now c.loop-level.level c.loop-level.from c.args.allocator.now c.loop-level.lists _ (omega (arith, c.loop-level-test.true)) (omega (arith, c.loop-level-test.true, c.told-blocks)) refl c.loop-level.invariant.numbered none.0 none.1
+    let none = c.in_err-from.ensures.no_space (handed_on _ _ NoSpace c.from_residual.ensures.1 e) in
+    way_short c.args.young.0 c.args.leaf c.args.blocks.now c.loop-level.level c.loop-level.from c.args.allocator.now c.loop-level.draft _ (omega (arith, c.loop-level-test.true)) (omega (arith, c.loop-level-test.true, c.told-blocks)) refl c.loop-level.invariant.numbered none.0 none.1
 
 pub loop-level-preserved : goal.loop-level-preserved
 loop-level-preserved c =

@@ -23,16 +23,16 @@ on_err (Err e) p = p
 pub returns-then-few-eq0-clause-dead : goal.returns-then-few-eq0-clause-dead
 returns-then-few-eq0-clause-dead c =
     on_ok c.put.result
-    (none_gained _ c.args.draft.released.items c.args.newest.0
-    (ap (λ l. length (filter (is_upto c.args.newest.0) l)) (sym c.deref.ensures.value) ∙ sym c.count_upto-few.ensures ∙ c.if-few-eq0.true))
+    (none_gained _ c.args.draft.now.released.items c.args.newest.0
+    (ap (λ l. length (filter (is_upto c.args.newest.0) l)) (sym c.as_slice.ensures) ∙ sym c.count_upto-few.ensures ∙ c.if-few-eq0.true))
 
 -- a longer list comes to its place
 pub returns-clause-dead : goal.returns-clause-dead
 returns-clause-dead c =
-    subst (λ (h : Held). HasGained (arc_value c.args.dead.now).entries h.entries c.args.draft.released.items c.args.newest.0) (sym c.in_ok-longer-2.ensures.ok)
-    (subst (λ (h : Held). HasGained h.entries c.in_ok-longer.longer.entries c.args.draft.released.items c.args.newest.0) c.deref-2.ensures
-    (subst (λ (rs : List Dead). HasGained c.deref-2.result.now.entries c.in_ok-longer.longer.entries rs c.args.newest.0) c.deref-3.ensures.value c.in_ok-longer.ensures.ok))
+    subst (λ (h : Held). HasGained (arc_value c.args.dead.now).entries h.entries c.args.draft.now.released.items c.args.newest.0) (sym c.in_ok-longer-2.ensures.ok)
+    (subst (λ (h : Held). HasGained h.entries c.in_ok-longer.longer.entries c.args.draft.now.released.items c.args.newest.0) c.deref.ensures
+    (subst (λ (rs : List Dead). HasGained c.deref.result.now.entries c.in_ok-longer.longer.entries rs c.args.newest.0) c.as_slice-2.ensures c.in_ok-longer.ensures.ok))
 
 -- or the list stays
-pub returns-in_err-changed-clause-dead_err : goal.returns-in_err-changed-clause-dead_err
-returns-in_err-changed-clause-dead_err c = on_err c.from_residual-in_err-changed.result (IsPermutation-refl (arc_value c.args.dead.now).entries)
+pub returns-in_err-put-clause-dead_err : goal.returns-in_err-put-clause-dead_err
+returns-in_err-put-clause-dead_err c = on_err c.from_residual-in_err-put.result (IsPermutation-refl (arc_value c.args.dead.now).entries)

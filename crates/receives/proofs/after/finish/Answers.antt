@@ -10,15 +10,15 @@ use Rattle.receives.proofs.after.finish.Goals as goal
 pub keep_live-requires-clause-can : goal.keep_live-requires-clause-can
 keep_live-requires-clause-can c =
     let can = subst (CanFinish c.args.table.now) (sym c.member-name.ensures.value) c.requires.can in
-    let done = c.in_ok-changed.ensures.ok in
+    let done = c.in_ok-apply_live.ensures.ok in
     can_keep c.args.table.now c.apply_live.new.self c.member-name.result.now done.change.new can done.to_is c.args.target.0 c.facts.ensures.good
 
-received : (c : goal.In_ok-keep_live) → HasReceived c.args.table.now c.keep_live.new.self c.args.name.now c.args.target.0 (changes_of c.args.updates.now) c.args.synced.0 c.args.allocator.now c.in_ok-changed.changed
+received : (c : goal.In_ok-keep_live) → HasReceived c.args.table.now c.keep_live.new.self c.args.name.now c.args.target.0 (changes_of c.args.updates.now) c.args.synced.0 c.args.allocator.now c.apply_live.new.draft
 received c =
     let u = c.apply_live.new.self in
     record {
       written = u;
-      change = subst (λ (m : Member). HasWritten c.args.table.now u m.file_system (changes_of c.args.updates.now) c.args.synced.0 c.args.allocator.now c.in_ok-changed.changed) c.member-name.ensures.value c.in_ok-changed.ensures.ok;
+      change = subst (λ (m : Member). HasWritten c.args.table.now u m.file_system (changes_of c.args.updates.now) c.args.synced.0 c.args.allocator.now c.apply_live.new.draft) c.member-name.ensures.value c.in_ok-apply_live.ensures.ok;
       kept = c.in_ok-keep_live.ensures.ok ∙ ap (λ (m : Member). with_snap_at (record u { group = u.group + 1 }) m.file_system m.component c.args.target.0 u.group) c.member-name.ensures.value;
     }
 
@@ -27,4 +27,4 @@ returns-clause-ok c = received c
 
 pub returns-clause-after : goal.returns-clause-after
 returns-clause-after c =
-    finished_by c.args.table.now c.keep_live.new.self c.args.name.now c.args.target.0 (changes_of c.args.updates.now) c.args.synced.0 c.args.allocator.now c.in_ok-changed.changed c.requires.can (received c)
+    finished_by c.args.table.now c.keep_live.new.self c.args.name.now c.args.target.0 (changes_of c.args.updates.now) c.args.synced.0 c.args.allocator.now c.apply_live.new.draft c.requires.can (received c)

@@ -47,15 +47,15 @@ finish-requires-clause-writes c =
     c.in_ok-edit.ensures.ready c.in_ok-updates.updates.items c.as_slice-2.result.now c.as_slice-2.ensures.value c.in_ok-updates.ensures.batch c.records.result.now c.records.ensures c.in_ok-updates.ensures.changes in
     batch_may c.requires.0 c.args.present c.args.name.now c.in_ok-stream.stream c.args.mode.now c.in_ok-edit.edit c.as_slice-2.result.now way
 
-pub returns-in_err-done-clause-err : goal.returns-in_err-done-clause-err
-returns-in_err-done-clause-err c s is =
+pub returns-in_err-finish-clause-err : goal.returns-in_err-finish-clause-err
+returns-in_err-finish-clause-err c s is =
     let way = under_way s c.args.present is c.args.name.now c.args.bytes.now c.args.mode.now c.in_ok-stream.stream c.in_ok-stream.ensures.ok c.in_ok-edit.edit c.in_ok-edit.ensures.can c.in_ok-edit.ensures.ok c.in_ok-edit.ensures.lost
     c.in_ok-edit.ensures.ready c.in_ok-updates.updates.items c.as_slice.result.now c.as_slice.ensures.value c.in_ok-updates.ensures.batch c.records.result.now c.records.ensures c.in_ok-updates.ensures.changes in
     let later = under_way s c.args.present is c.args.name.now c.args.bytes.now c.args.mode.now c.in_ok-stream.stream c.in_ok-stream.ensures.ok c.in_ok-edit.edit c.in_ok-edit.ensures.can c.in_ok-edit.ensures.ok c.in_ok-edit.ensures.lost
     c.in_ok-edit.ensures.ready c.in_ok-updates.updates.items c.as_slice-2.result.now c.as_slice-2.ensures.value c.in_ok-updates.ensures.batch c.records.result.now c.records.ensures c.in_ok-updates.ensures.changes in
-    refused_by c.from_residual-in_err-done.result c.in_err-done.field-0.0 (λ e. Step s (Receive c.args.name.now c.args.bytes.now c.args.mode.now) (Refused e) s) c.from_residual-in_err-done.ensures.1
+    refused_by c.from_residual-in_err-finish.result c.in_err-finish.field-0.0 (λ e. Step s (Receive c.args.name.now c.args.bytes.now c.args.mode.now) (Refused e) s) c.from_residual-in_err-finish.ensures.1
     (not_finished s c.args.present c.args.name.now c.in_ok-stream.stream c.args.mode.now c.in_ok-edit.edit c.as_slice-2.result.now later c.args.bytes.now c.in_ok-stream.ensures.ok
-    (c.in_ok-ask_limits.ensures.ok s c.in_ok-stream.stream c.args.mode.now way) c.in_err-done.field-0.0 (λ e. c.in_err-done.ensures.no_space (ap Err e)) c.in_err-done.ensures.only)
+    (c.in_ok-ask_limits.ensures.ok s c.in_ok-stream.stream c.args.mode.now way) c.in_err-finish.field-0.0 (λ e. c.in_err-finish.ensures.no_space (ap Err e)) c.in_err-finish.ensures.only)
 
 pub returns-clause-ok : goal.returns-clause-ok
 returns-clause-ok c s is =
@@ -64,6 +64,6 @@ returns-clause-ok c s is =
     let later = under_way s c.args.present is c.args.name.now c.args.bytes.now c.args.mode.now c.in_ok-stream.stream c.in_ok-stream.ensures.ok c.in_ok-edit.edit c.in_ok-edit.ensures.can c.in_ok-edit.ensures.ok c.in_ok-edit.ensures.lost
     c.in_ok-edit.ensures.ready c.in_ok-updates.updates.items c.as_slice-2.result.now c.as_slice-2.ensures.value c.in_ok-updates.ensures.batch c.records.result.now c.records.ensures c.in_ok-updates.ensures.changes in
     finished s c.args.present c.args.name.now c.in_ok-stream.stream c.args.mode.now c.in_ok-edit.edit c.as_slice-2.result.now later c.args.bytes.now c.in_ok-stream.ensures.ok
-    (c.in_ok-ask_limits.ensures.ok s c.in_ok-stream.stream c.args.mode.now way) c.finish.new.table c.in_ok-done.done
-    (subst (λ guid. HasReceived c.in_ok-edit.edit.to c.finish.new.table c.args.name.now guid (changes_of c.as_slice-2.result.now) c.args.present.synced.0 c.args.present.allocator.now c.in_ok-done.done)
-    c.target.ensures c.in_ok-done.ensures.ok) c.in_ok-done.ensures.room
+    (c.in_ok-ask_limits.ensures.ok s c.in_ok-stream.stream c.args.mode.now way) c.finish.new.table c.finish.new.draft
+    (subst (λ guid. HasReceived c.in_ok-edit.edit.to c.finish.new.table c.args.name.now guid (changes_of c.as_slice-2.result.now) c.args.present.synced.0 c.args.present.allocator.now c.finish.new.draft)
+    c.target.ensures c.in_ok-finish.ensures.ok) c.in_ok-finish.ensures.room

@@ -13,7 +13,7 @@ returns-then-is_idle-clause-part g c =
     let h = g.C.Level.height in
     let o = part_of_owner g.C.Level.part c.args.old in
     let e = idle_touched (said c.args.updates.now) h c.args.index o c.is_some-present.result (c.is_some-present.ensures ∙ sym (some_mapped _ c.args.old)) (c.is_idle.ensures.idle c.if-is_idle.true) in
-    c.in_ok-keep.ensures.ok ∙ sym (untouched_rebuilt (said c.args.updates.now) (number_of c.args.made.now) c.args.group.0 h c.args.index o e)
+    c.in_ok-keep.ensures ∙ sym (untouched_rebuilt (said c.args.updates.now) (number_of c.args.made.now) c.args.group.0 h c.args.index o e)
 
 pub returns-then-is_idle-clause-touched : goal.returns-then-is_idle-clause-touched
 returns-then-is_idle-clause-touched g c =

@@ -11,7 +11,7 @@ pub keep_pair-requires-clause-right : goal.keep_pair-requires-clause-right
 keep_pair-requires-clause-right g c =
     (nothing_at c.args.kids.now c.loop-at.kids c.loop-at.at _ (omega (arith, c.loop-at.invariant.eight, c.loop-at-test.true)) c.requires.empty (c.loop-at.invariant.rest c.loop-at.at (omega arith))).1
 
-pub returns-clause-ok : goal.returns-clause-ok
-returns-clause-ok g c =
+pub returns : goal.returns
+returns g c =
     alike_forest (shared_part g.C.Level.part) c.loop-at.kids c.args.from.now (c.loop-at.invariant.eight ∙ sym c.type_inv.from)
     (λ i n. c.loop-at.invariant.same i (omega (arith, n, c.loop-at.invariant.eight, c.loop-at-test.false)))

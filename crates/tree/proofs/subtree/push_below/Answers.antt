@@ -13,8 +13,8 @@ child_at-requires g c = (omega arith, (c.requires.key, (c.requires.level, (omega
 pub loop-place-preserved : goal.loop-place-preserved
 loop-place-preserved g c = (
   omega arith,
-  one_put (branch_at c.args.key (inner_part g.C.Level.part c.args.node.now)) c.loop-place.place _ _ _ _ c.loop-place-test.true c.loop-place.invariant.0 c.in_ok-child_at.ensures.ok c.in_ok-push_top.ensures.ok c.loop-place.invariant.1,
+  one_put (branch_at c.args.key (inner_part g.C.Level.part c.args.node.now)) c.loop-place.place _ _ _ _ c.loop-place-test.true c.loop-place.invariant.0 c.in_ok-child_at.ensures c.in_ok-push_top.ensures c.loop-place.invariant.1,
 )
 
-pub returns-clause-ok : goal.returns-clause-ok
-returns-clause-ok g c = all_put (branch_at c.args.key (inner_part g.C.Level.part c.args.node.now)) c.loop-place.place _ _ (omega arith) c.loop-place.invariant.1
+pub returns : goal.returns
+returns g c = all_put (branch_at c.args.key (inner_part g.C.Level.part c.args.node.now)) c.loop-place.place _ _ (omega arith) c.loop-place.invariant.1

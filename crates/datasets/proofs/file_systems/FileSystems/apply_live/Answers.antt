@@ -8,7 +8,6 @@ use Rattle.model.specs.World.{Snap, SnapId}
 use Rattle.base.specs.declared.refusal.Refusal.{Refusal}
 use Rattle.base.specs.declared.refusal.Refusal.TheVariants.{NoDataset, NoSpace, NoMemory}
 use Rattle.tree.proofs.Options.{not_some}
-use Rattle.tree.specs.declared.change.Changed.{Changed}
 use Rattle.file_system.specs.Dead.{AllowsLive}
 use Rattle.file_system.specs.Origins.{origin_group}
 use Rattle.file_system.specs.Rows.{Row, entry_in, entry_of, live_of, snaps_at, with_system}
@@ -32,8 +31,8 @@ on_err (Ok v) f p = tt
 on_err (Err e) f p = f p
 
 -- a tree doesn't tell of names
-other_refusal : (r : Result Changed Refusal) → IfErr r (λ e. (e ≡ NoSpace) ⊎ (e ≡ NoMemory)) → r ≡ Err NoDataset → ⊥
-other_refusal r only is = neither (subst (λ (x : Result Changed Refusal). IfErr x (λ e. (e ≡ NoSpace) ⊎ (e ≡ NoMemory))) is only)
+other_refusal : (r : Result (Unit {0}) Refusal) → IfErr r (λ e. (e ≡ NoSpace) ⊎ (e ≡ NoMemory)) → r ≡ Err NoDataset → ⊥
+other_refusal r only is = neither (subst (λ (x : Result (Unit {0}) Refusal). IfErr x (λ e. (e ≡ NoSpace) ⊎ (e ≡ NoMemory))) is only)
   where
     neither : (NoDataset ≡ NoSpace) ⊎ (NoDataset ≡ NoMemory) → ⊥
     neither = ⊎_elim (λ e. cc) (λ e. cc)

@@ -1,5 +1,5 @@
 use Rattle.std.proofs.Common.{arith, ◌≡◌, Err, sym, subst}
-use Rattle.std.specs.Prelude.{IfOk, OnOk}
+use Rattle.std.specs.Prelude.{OnOk}
 use Rattle.base.specs.declared.refusal.Refusal.TheVariants.{NoSpace}
 use Rattle.tree.specs.Change.{HasRoom, LacksRoom}
 use Rattle.tree.specs.Updates.{changes_of}
@@ -27,15 +27,15 @@ pub invariant_of-self : goal.invariant_of-self
 invariant_of-self c =
     let allows = subst (λ (t : Datasets). AllowsWrite t c.args.updates.now c.args.synced.0 c.args.allocator.now) (sym c.self.view_is) c.requires in
     kept_table _ c.self.invariant c.args.name.now c.args.updates.now c.args.synced.0 c.args.allocator.now allows (changes_of c.args.updates.now)
-    c.apply_live.new.self _ c.apply_live.result c.apply_live.ensures.ok c.apply_live.ensures.others c.apply_live.ensures.err c.apply_live.ensures.no_dataset
+    c.apply_live.new.self _ c.apply_live.result c.apply_live.new.draft c.apply_live.ensures.ok c.apply_live.ensures.others c.apply_live.ensures.err c.apply_live.ensures.no_dataset
 
 pub returns-clause-ok : goal.returns-clause-ok
 returns-clause-ok c =
     let allows = subst (λ (t : Datasets). AllowsWrite t c.args.updates.now c.args.synced.0 c.args.allocator.now) (sym c.self.view_is) c.requires in
-    subst (λ (t : Datasets). IfOk c.apply_live.result (HasWritten t (record { file_systems = c.apply_live.new.self; group = c.self.inside.group.0 }) c.args.name.now (changes_of c.args.updates.now) c.args.synced.0 c.args.allocator.now))
+    subst (λ (t : Datasets). OnOk c.apply_live.result (HasWritten t (record { file_systems = c.apply_live.new.self; group = c.self.inside.group.0 }) c.args.name.now (changes_of c.args.updates.now) c.args.synced.0 c.args.allocator.now c.apply_live.new.draft))
     c.self.view_is
     (has_written _ c.self.invariant c.args.name.now c.args.updates.now c.args.synced.0 c.args.allocator.now allows (changes_of c.args.updates.now)
-    c.apply_live.new.self c.args.synced.0 c.apply_live.result c.apply_live.ensures.ok c.apply_live.ensures.others)
+    c.apply_live.new.self c.args.synced.0 c.apply_live.result c.apply_live.new.draft c.apply_live.ensures.ok c.apply_live.ensures.others)
 
 pub returns-clause-room : goal.returns-clause-room
 returns-clause-room c =

@@ -5,7 +5,7 @@ use Rattle.base.specs.Surveys.{dead_block}
 use Rattle.base.specs.declared.number.Dead.{Dead}
 use Rattle.file_system.specs.Writes.{newest_group}
 use Rattle.file_system.proofs.Releases.{map_filter}
-use Rattle.std.proofs.lemmas.Fn.{filter_same}
+use Rattle.arrayvec.proofs.ArrayVecLemmas.{filter-from_retain}
 use Rattle.std.specs.Arc.{arc_value}
 use Rattle.std.specs.FinSet.{difference}
 use Rattle.std.specs.Option.{option_map}
@@ -44,13 +44,13 @@ pub returns-clause-ok : goal.returns-clause-ok
 returns-clause-ok c =
     let newest = newest_group (origin_group c.args.self.now.system.origin) c.args.self.now.system.snaps in
     let young : c.young_from-young.result.0 ≡ max c.args.synced.0 (newest + 1) = c.young_from-young.ensures ∙ ap (λ n. max c.args.synced.0 (n + 1)) c.newest_group-newest.ensures in
-    let done = c.in_ok-changed.changed in
-    let kept : c.retain.new.self.items ≡ filter (λ (d : Dead). nat_lt c.newest_group-newest.result.0 d.birth.0) done.released.items = filter_same _ (λ (d : Dead). nat_lt c.newest_group-newest.result.0 d.birth.0) _ (λ x b g k. search rules) _ _ c.retain.ensures.filtered in
+    let done = c.put.new.draft in
+    let kept : c.retain.new.self.items ≡ filter (λ (d : Dead). nat_lt c.newest_group-newest.result.0 d.birth.0) done.released.items = filter-from_retain _ (λ (d : Dead). nat_lt c.newest_group-newest.result.0 d.birth.0) _ (λ x b g y k. search rules) _ _ c.retain.ensures.filtered in
     let asked : AllowsChange c.self.inside.live c.args.updates.now c.args.group.0 c.young_from-young.result.0 c.args.allocator.now =
     subst (λ (r : Row). AllowsChange r.system.live c.args.updates.now c.args.group.0 c.young_from-young.result.0 c.args.allocator.now) (sym c.self.view_is)
     (subst (λ y. AllowsChange c.args.self.now.system.live c.args.updates.now c.args.group.0 y c.args.allocator.now) (sym young) c.requires.allowed.asks) in
     let put : IsChange c.self.inside.live (changes_of c.args.updates.now) c.args.group.0 c.young_from-young.result.0 c.args.allocator.now (change_done c.self.inside.live c.put.new.live done) =
-    c.in_ok-changed.ensures.ok.changed c.young_from-young.result.0 c.args.allocator.now asked c.in_ok-draft.ensures.ok in
+    c.in_ok-put.ensures.ok.changed c.young_from-young.result.0 c.args.allocator.now asked c.in_ok-draft.ensures.ok in
     record {
       change = change_done c.self.inside.live c.put.new.live done;
       is = subst (λ y. IsChange c.args.self.now.system.live (changes_of c.args.updates.now) c.args.group.0 y c.args.allocator.now (change_done c.self.inside.live c.put.new.live done)) young
@@ -66,7 +66,7 @@ pub returns-clause-metered : goal.returns-clause-metered
 returns-clause-metered c =
     let d = c.in_ok-draft.ensures.metered in
     subst (λ (r : Row). CountsDropped r.system.live (changes_of c.args.updates.now) c.args.meter.now c.put.new.meter) c.self.view_is
-    (record { dropped = d.dropped; each = d.each; once = d.once; metered = omega (arith, d.metered, c.in_ok-changed.ensures.never_lower) })
+    (record { dropped = d.dropped; each = d.each; once = d.once; metered = omega (arith, d.metered, c.in_ok-put.ensures.never_lower) })
 
 -- where memory was refused, the dead list's entries may stand in another order
 pub invariant_of-self : goal.invariant_of-self
@@ -74,10 +74,10 @@ invariant_of-self c =
     let below = newest_blocks (blocks_below (option_map arc_value c.self.inside.origin)) (snaps_in (arc_value c.self.inside.snapshots)) in
     record {
       accounted = c.self.invariant.accounted;
-      dead = subst (λ (m : Map). Lists (map dead_block (arc_value c.put.new.dead).entries) (difference below (blocks m))) (sym c.in_err-changed.ensures.err)
-          (lists_shuffled dead_block _ _ _ c.in_err-changed.ensures.dead_err c.self.invariant.dead);
-      plain = c.in_err-changed.ensures.plain;
-      counted = subst (λ (m : Map). IsCounted (map_below (option_map arc_value c.self.inside.origin)) (snaps_in (arc_value c.self.inside.snapshots)) m c.self.inside.counts) (sym c.in_err-changed.ensures.err) c.self.invariant.counted;
+      dead = subst (λ (m : Map). Lists (map dead_block (arc_value c.put.new.dead).entries) (difference below (blocks m))) (sym c.in_err-put.ensures.err)
+          (lists_shuffled dead_block _ _ _ c.in_err-put.ensures.dead_err c.self.invariant.dead);
+      plain = c.in_err-put.ensures.plain;
+      counted = subst (λ (m : Map). IsCounted (map_below (option_map arc_value c.self.inside.origin)) (snaps_in (arc_value c.self.inside.snapshots)) m c.self.inside.counts) (sym c.in_err-put.ensures.err) c.self.invariant.counted;
     }
 
 -- ---- the counts
@@ -98,11 +98,11 @@ rest_of-requires-clause-own c =
     let top : c.newest_group-newest.result.0 ≡ newest_group base snaps = c.newest_group-newest.ensures ∙ ap (λ (r : Row). newest_group (origin_group r.system.origin) r.system.snaps) (sym c.self.view_is) in
     let lined : AreLined below base snaps m =
     subst (λ (r : Row). AreLined r.below (origin_group r.system.origin) r.system.snaps r.system.live) (sym c.self.view_is) (line_above c.args.self.now.below c.args.self.now.system c.requires.above) in
-    let es = c.in_ok-draft.draft.released.items in
+    let es = c.draft.new.draft.released.items in
     let many = own_many below base snaps m lined (changes_of c.args.updates.now) c.young_from-young.result.0 es c.in_ok-draft.ensures.released in
     let nodes = c.node_count-nodes.ensures.count ∙ sym (count_is m c.node_count-nodes.ensures.unique) in
     let was = c.self.invariant.counted.by_dataset in
-    let low : upto_count c.base_group-base.result.0 c.deref.result.now ≡ upto_count base es = λ i. upto_count (bottom i) (c.deref.ensures.value i) in
+    let low : upto_count c.base_group-base.result.0 c.as_slice.result.now ≡ upto_count base es = λ i. upto_count (bottom i) (c.as_slice.ensures i) in
     omega arith
 
 pub rest_of-requires-clause-rising : goal.rest_of-requires-clause-rising
@@ -116,9 +116,9 @@ rest_of-requires-clause-rising c =
     let top : c.newest_group-newest.result.0 ≡ newest_group base snaps = c.newest_group-newest.ensures ∙ ap (λ (r : Row). newest_group (origin_group r.system.origin) r.system.snaps) (sym c.self.view_is) in
     let lined : AreLined below base snaps m =
     subst (λ (r : Row). AreLined r.below (origin_group r.system.origin) r.system.snaps r.system.live) (sym c.self.view_is) (line_above c.args.self.now.below c.args.self.now.system c.requires.above) in
-    let es = c.in_ok-draft.draft.released.items in
+    let es = c.draft.new.draft.released.items in
     let over = newest_over (blocks below) base snaps m lined.line in
-    upto_more c.base_group-base.result.0 c.newest_group-newest.result.0 c.deref.result.now (omega arith)
+    upto_more c.base_group-base.result.0 c.newest_group-newest.result.0 c.as_slice.result.now (omega arith)
 
 -- the new live map has what is left of the origin's
 pub counts_with-self-inside-requires : goal.counts_with-self-inside-requires
@@ -132,19 +132,19 @@ counts_with-self-inside-requires c =
     let top : c.newest_group-newest.result.0 ≡ newest_group base snaps = c.newest_group-newest.ensures ∙ ap (λ (r : Row). newest_group (origin_group r.system.origin) r.system.snaps) (sym c.self.view_is) in
     let lined : AreLined below base snaps m =
     subst (λ (r : Row). AreLined r.below (origin_group r.system.origin) r.system.snaps r.system.live) (sym c.self.view_is) (line_above c.args.self.now.below c.args.self.now.system c.requires.above) in
-    let es = c.in_ok-draft.draft.released.items in
+    let es = c.draft.new.draft.released.items in
     let newest = newest_group (origin_group c.args.self.now.system.origin) c.args.self.now.system.snaps in
     let young : c.young_from-young.result.0 ≡ max c.args.synced.0 (newest + 1) = c.young_from-young.ensures ∙ ap (λ n. max c.args.synced.0 (n + 1)) c.newest_group-newest.ensures in
-    let done = c.in_ok-changed.changed in
+    let done = c.put.new.draft in
     let new = c.put.new.live in
     let asked : AllowsChange m c.args.updates.now c.args.group.0 c.young_from-young.result.0 c.args.allocator.now =
     subst (λ (r : Row). AllowsChange r.system.live c.args.updates.now c.args.group.0 c.young_from-young.result.0 c.args.allocator.now) (sym c.self.view_is)
     (subst (λ y. AllowsChange c.args.self.now.system.live c.args.updates.now c.args.group.0 y c.args.allocator.now) (sym young) c.requires.allowed.asks) in
     let put : IsChange m (changes_of c.args.updates.now) c.args.group.0 c.young_from-young.result.0 c.args.allocator.now (change_done m new done) =
-    c.in_ok-changed.ensures.ok.changed c.young_from-young.result.0 c.args.allocator.now asked c.in_ok-draft.ensures.ok in
+    c.in_ok-put.ensures.ok.changed c.young_from-young.result.0 c.args.allocator.now asked c.in_ok-draft.ensures.ok in
     let late : newest_group base snaps < c.young_from-young.result.0 = omega (arith, c.newest_group-newest.ensures) in
-    let let_go : map dead_block done.released.items ≡ map dead_block es = ap (map dead_block) c.in_ok-changed.ensures.ok.released in
-    let rest = rest_over es c.self.inside.counts c.node_count-nodes.result _ c.base_group-base.result.0 c.newest_group-newest.result.0 c.in_ok-rest.rest c.deref.ensures.value c.in_ok-rest.ensures.ok in
+    let let_go : map dead_block done.released.items ≡ map dead_block es = ap (map dead_block) c.in_ok-put.ensures.ok.released in
+    let rest = rest_over es c.self.inside.counts c.node_count-nodes.result _ c.base_group-base.result.0 c.newest_group-newest.result.0 c.in_ok-rest.rest c.as_slice.ensures c.in_ok-rest.ensures.ok in
     let old_nodes = c.node_count-nodes.ensures.count ∙ sym (count_is m c.node_count-nodes.ensures.unique) in
     let after = own_after m new (changes_of c.args.updates.now) c.args.group.0 c.young_from-young.result.0 c.args.allocator.now (change_done m new done) put c.in_ok-draft.ensures.unique refl asked.young es let_go below base snaps lined late in
     let low : upto_count c.base_group-base.result.0 es ≡ upto_count base es = ap (λ n. upto_count n es) bottom in
@@ -160,12 +160,12 @@ invariant_of-self-2 c =
     let snaps = snaps_in (arc_value c.self.inside.snapshots) in
     let newest = newest_group (origin_group c.args.self.now.system.origin) c.args.self.now.system.snaps in
     let young : c.young_from-young.result.0 ≡ max c.args.synced.0 (newest + 1) = c.young_from-young.ensures ∙ ap (λ n. max c.args.synced.0 (n + 1)) c.newest_group-newest.ensures in
-    let done = c.in_ok-changed.changed in
+    let done = c.put.new.draft in
     let asked : AllowsChange c.self.inside.live c.args.updates.now c.args.group.0 c.young_from-young.result.0 c.args.allocator.now =
     subst (λ (r : Row). AllowsChange r.system.live c.args.updates.now c.args.group.0 c.young_from-young.result.0 c.args.allocator.now) (sym c.self.view_is)
     (subst (λ y. AllowsChange c.args.self.now.system.live c.args.updates.now c.args.group.0 y c.args.allocator.now) (sym young) c.requires.allowed.asks) in
     let put : IsChange c.self.inside.live (changes_of c.args.updates.now) c.args.group.0 c.young_from-young.result.0 c.args.allocator.now (change_done c.self.inside.live c.put.new.live done) =
-    c.in_ok-changed.ensures.ok.changed c.young_from-young.result.0 c.args.allocator.now asked c.in_ok-draft.ensures.ok in
+    c.in_ok-put.ensures.ok.changed c.young_from-young.result.0 c.args.allocator.now asked c.in_ok-draft.ensures.ok in
     let bs = blocks_below (option_map arc_value c.self.inside.origin) in
     let base = group_below (option_map arc_value c.self.inside.origin) in
     let here : newest ≡ newest_group base snaps = ap (λ (r : Row). newest_group (origin_group r.system.origin) r.system.snaps) (sym c.self.view_is) in
@@ -173,13 +173,13 @@ invariant_of-self-2 c =
     subst (λ (r : Row). IsAbove (blocks r.below) (origin_group r.system.origin) r.system.live r.system.snaps) (sym c.self.view_is) c.requires.allowed.above in
     let late : newest_group base snaps < c.young_from-young.result.0 = omega arith in
     let early : c.young_from-young.result.0 ≤ c.args.group.0 = asked.young in
-    let gained : HasGained (arc_value c.self.inside.dead).entries (arc_value c.put.new.dead).entries c.in_ok-draft.draft.released.items (newest_group base snaps) =
-    subst (HasGained (arc_value c.self.inside.dead).entries (arc_value c.put.new.dead).entries c.in_ok-draft.draft.released.items) (c.newest_group-newest.ensures ∙ here) c.in_ok-changed.ensures.dead in
+    let gained : HasGained (arc_value c.self.inside.dead).entries (arc_value c.put.new.dead).entries c.draft.new.draft.released.items (newest_group base snaps) =
+    subst (HasGained (arc_value c.self.inside.dead).entries (arc_value c.put.new.dead).entries c.draft.new.draft.released.items) (c.newest_group-newest.ensures ∙ here) c.in_ok-put.ensures.dead in
     record {
       accounted = c.self.invariant.accounted;
       dead = dead_changed bs base c.self.inside.live c.put.new.live (changes_of c.args.updates.now) c.args.group.0 c.young_from-young.result.0 c.args.allocator.now (change_done c.self.inside.live c.put.new.live done)
-          put c.in_ok-draft.ensures.unique snaps above late early _ _ c.in_ok-draft.draft.released.items gained (ap (map dead_block) c.in_ok-changed.ensures.ok.released) refl c.self.invariant.dead;
-      plain = c.in_ok-changed.ensures.plain;
+          put c.in_ok-draft.ensures.unique snaps above late early _ _ c.draft.new.draft.released.items gained (ap (map dead_block) c.in_ok-put.ensures.ok.released) refl c.self.invariant.dead;
+      plain = c.in_ok-put.ensures.plain;
       counted = (
           let snaps = snaps_in (arc_value c.self.inside.snapshots) in
           let o = option_map arc_value c.self.inside.origin in
@@ -190,19 +190,19 @@ invariant_of-self-2 c =
           let top : c.newest_group-newest.result.0 ≡ newest_group base snaps = c.newest_group-newest.ensures ∙ ap (λ (r : Row). newest_group (origin_group r.system.origin) r.system.snaps) (sym c.self.view_is) in
           let lined : AreLined below base snaps m =
           subst (λ (r : Row). AreLined r.below (origin_group r.system.origin) r.system.snaps r.system.live) (sym c.self.view_is) (line_above c.args.self.now.below c.args.self.now.system c.requires.above) in
-          let es = c.in_ok-draft.draft.released.items in
+          let es = c.draft.new.draft.released.items in
           let newest = newest_group (origin_group c.args.self.now.system.origin) c.args.self.now.system.snaps in
           let young : c.young_from-young.result.0 ≡ max c.args.synced.0 (newest + 1) = c.young_from-young.ensures ∙ ap (λ n. max c.args.synced.0 (n + 1)) c.newest_group-newest.ensures in
-          let done = c.in_ok-changed.changed in
+          let done = c.put.new.draft in
           let new = c.put.new.live in
           let asked : AllowsChange m c.args.updates.now c.args.group.0 c.young_from-young.result.0 c.args.allocator.now =
           subst (λ (r : Row). AllowsChange r.system.live c.args.updates.now c.args.group.0 c.young_from-young.result.0 c.args.allocator.now) (sym c.self.view_is)
           (subst (λ y. AllowsChange c.args.self.now.system.live c.args.updates.now c.args.group.0 y c.args.allocator.now) (sym young) c.requires.allowed.asks) in
           let put : IsChange m (changes_of c.args.updates.now) c.args.group.0 c.young_from-young.result.0 c.args.allocator.now (change_done m new done) =
-          c.in_ok-changed.ensures.ok.changed c.young_from-young.result.0 c.args.allocator.now asked c.in_ok-draft.ensures.ok in
+          c.in_ok-put.ensures.ok.changed c.young_from-young.result.0 c.args.allocator.now asked c.in_ok-draft.ensures.ok in
           let late : newest_group base snaps < c.young_from-young.result.0 = omega (arith, c.newest_group-newest.ensures) in
-          let let_go : map dead_block done.released.items ≡ map dead_block es = ap (map dead_block) c.in_ok-changed.ensures.ok.released in
-          let rest = rest_over es c.self.inside.counts c.node_count-nodes.result _ c.base_group-base.result.0 c.newest_group-newest.result.0 c.in_ok-rest.rest c.deref.ensures.value c.in_ok-rest.ensures.ok in
+          let let_go : map dead_block done.released.items ≡ map dead_block es = ap (map dead_block) c.in_ok-put.ensures.ok.released in
+          let rest = rest_over es c.self.inside.counts c.node_count-nodes.result _ c.base_group-base.result.0 c.newest_group-newest.result.0 c.in_ok-rest.rest c.as_slice.ensures c.in_ok-rest.ensures.ok in
           let old_nodes = c.node_count-nodes.ensures.count ∙ sym (count_is m c.node_count-nodes.ensures.unique) in
           let after = own_after m new (changes_of c.args.updates.now) c.args.group.0 c.young_from-young.result.0 c.args.allocator.now (change_done m new done) put c.in_ok-draft.ensures.unique refl asked.young es let_go below base snaps lined late in
           let low : upto_count c.base_group-base.result.0 es ≡ upto_count base es = ap (λ n. upto_count n es) bottom in

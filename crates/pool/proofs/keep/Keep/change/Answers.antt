@@ -1,7 +1,9 @@
-use Rattle.std.proofs.Common.{◌≡◌, ℕ, List, [], ◌∷◌, Option, Result, Ok, Err, inl, subst, ◌∙◌, rules}
+use Rattle.std.proofs.Common.{◌≡◌, ap, ℕ, List, [], ◌∷◌, Option, Result, Ok, Err, inl, refl, subst, ◌∙◌, rules}
 use Rattle.std.specs.Prelude.{IfOk}
 use Rattle.base.specs.declared.refusal.Refusal.{Refusal}
+use Rattle.base.specs.declared.refusal.Refusal.TheVariants.{NoMemory}
 use Rattle.batch.specs.Updates.{IsBatch}
+use Rattle.batch.specs.declared.draft.Draft.{Draft}
 use Rattle.batch.specs.declared.numbers.NewBlock.{NewBlock}
 use Rattle.batch.specs.declared.update.Update.{Update}
 use Rattle.tree.specs.declared.block.Root.{Root}
@@ -23,8 +25,8 @@ batch_of r u is batch = subst (λ x. IfOk x (λ v. IsBatch (v ∷ []))) is batch
 left_by : (u : Update) (path : List (Option Root)) (writes : Writes) (g h : ℕ) → g ≡ h → (made done : List NewBlock) → made ≡ done → IsLeftBy u g made path writes → IsLeftBy u h done path writes
 left_by u path writes g h group made done is left = subst (λ n. IsLeftBy u n done path writes) group (subst (λ bs. IsLeftBy u g bs path writes) is left)
 
-pub path_before-requires : goal.path_before-requires
-path_before-requires c = (batch_of c.args.update c.in-Ok.update c.in-Ok.is c.requires.batch).1
+pub begin-requires : goal.begin-requires
+begin-requires c = (batch_of c.args.update c.in-Ok.update c.in-Ok.is c.requires.batch).1
 
 pub returns-in_err-name-clause-performed : goal.returns-in_err-name-clause-performed
 returns-in_err-name-clause-performed c q asks =
@@ -46,46 +48,51 @@ returns-in_err-outlook-clause-performed c q asks =
 
 pub returns-in_err-path-clause-performed : goal.returns-in_err-path-clause-performed
 returns-in_err-path-clause-performed c q asks =
-    exits (state_in c.args.self.now c.args.world.now) c.args.self.now.numbers.present _ q c.from_residual-in_err-path.result c.in_err-path.field-0.0 c.from_residual-in_err-path.ensures.1
-    (not_asked (state_in c.args.self.now c.args.world.now) c.args.self.now.numbers.present c.requires.held.sound q c.in_ok-name.name.now c.in-Ok.update (asks_here q c.args.target.now c.args.update c.in_ok-name.name.now (Ok c.in-Ok.update) c.in_ok-name.ensures.ok c.in-Ok.is asks) c.in_err-path.field-0.0 (inl c.in_err-path.ensures.err))
+    exits (state_in c.args.self.now c.args.world.now) c.args.self.now.numbers.present _ q c.from_residual-in_err-path.result NoMemory (search rules)
+    (not_asked (state_in c.args.self.now c.args.world.now) c.args.self.now.numbers.present c.requires.held.sound q c.in_ok-name.name.now c.in-Ok.update (asks_here q c.args.target.now c.args.update c.in_ok-name.name.now (Ok c.in-Ok.update) c.in_ok-name.ensures.ok c.in-Ok.is asks) NoMemory (inl refl))
+
+pub returns-in_err-draft-clause-performed : goal.returns-in_err-draft-clause-performed
+returns-in_err-draft-clause-performed c q asks =
+    exits (state_in c.args.self.now c.args.world.now) c.args.self.now.numbers.present _ q c.from_residual-in_err-draft.result NoMemory (search rules)
+    (not_asked (state_in c.args.self.now c.args.world.now) c.args.self.now.numbers.present c.requires.held.sound q c.in_ok-name.name.now c.in-Ok.update (asks_here q c.args.target.now c.args.update c.in_ok-name.name.now (Ok c.in-Ok.update) c.in_ok-name.ensures.ok c.in-Ok.is asks) NoMemory (inl refl))
 
 pub apply_live-requires : goal.apply_live-requires
 apply_live-requires c = rw c.present.ensures (allowed (state_in c.args.self.now c.args.world.now) c.args.self.now.numbers.present c.requires.held.sound c.group-synced.result.0 c.group-synced.ensures c.from_ref.result.now (search rules))
 
-pub returns-in_err-done-clause-performed : goal.returns-in_err-done-clause-performed
-returns-in_err-done-clause-performed c q asks =
-    let e = rw c.present.ensures at c.in_err-done.ensures in
-    exits (state_in c.args.self.now c.args.world.now) c.args.self.now.numbers.present _ q c.from_residual-in_err-done.result c.in_err-done.field-0.0 c.from_residual-in_err-done.ensures.1
-    (refused_now (state_in c.args.self.now c.args.world.now) c.args.self.now.numbers.present c.requires.held.sound c.group-synced.result.0 c.group-synced.ensures c.in_ok-name.name.now c.apply_live.new.self c.in-Ok.update c.from_ref.result.now c.from_ref.ensures.value (c.in_ok-outlook.ensures.ok (state_in c.args.self.now c.args.world.now) (state_with (state_in c.args.self.now c.args.world.now) c.args.self.now.numbers.present c.requires.held.sound c.space.result c.space.ensures.size (c.space.ensures.freeing ∙ c.len.ensures) c.space.ensures.waiting) c.group-synced.ensures) c.in_err-done.field-0.0
+pub returns-in_err-apply_live-clause-performed : goal.returns-in_err-apply_live-clause-performed
+returns-in_err-apply_live-clause-performed c q asks =
+    let e = rw c.present.ensures at c.in_err-apply_live.ensures in
+    exits (state_in c.args.self.now c.args.world.now) c.args.self.now.numbers.present _ q c.from_residual-in_err-apply_live.result c.in_err-apply_live.field-0.0 c.from_residual-in_err-apply_live.ensures.1
+    (refused_now (state_in c.args.self.now c.args.world.now) c.args.self.now.numbers.present c.requires.held.sound c.group-synced.result.0 c.group-synced.ensures c.in_ok-name.name.now c.apply_live.new.self c.in-Ok.update c.from_ref.result.now c.from_ref.ensures.value (c.in_ok-outlook.ensures.ok (state_in c.args.self.now c.args.world.now) (state_with (state_in c.args.self.now c.args.world.now) c.args.self.now.numbers.present c.requires.held.sound c.space.result c.space.ensures.size (c.space.ensures.freeing ∙ c.len.ensures) c.space.ensures.waiting) c.group-synced.ensures) c.in_err-apply_live.field-0.0 c.apply_live.new.draft
     (record { ok = e.ok; room = e.room; no_dataset = e.no_dataset; no_space = e.no_space; only = e.only }) q (asks_here q c.args.target.now c.args.update c.in_ok-name.name.now (Ok c.in-Ok.update) c.in_ok-name.ensures.ok c.in-Ok.is asks))
 
 pub settle-requires-clause-before : goal.settle-requires-clause-before
 settle-requires-clause-before c =
-    let e = rw c.present.ensures at c.in_ok-done.ensures in
-    (datasets_of (state_in c.args.self.now c.args.world.now), settles_now (state_in c.args.self.now c.args.world.now) c.args.self.now.numbers.present c.requires.held.sound c.group-synced.result.0 c.group-synced.ensures c.in_ok-name.name.now c.apply_live.new.self c.in-Ok.update c.from_ref.result.now c.from_ref.ensures.value (c.in_ok-outlook.ensures.ok (state_in c.args.self.now c.args.world.now) (state_with (state_in c.args.self.now c.args.world.now) c.args.self.now.numbers.present c.requires.held.sound c.space.result c.space.ensures.size (c.space.ensures.freeing ∙ c.len.ensures) c.space.ensures.waiting) c.group-synced.ensures) c.in_ok-done.done (record { ok = e.ok; room = e.room; no_dataset = e.no_dataset; no_space = e.no_space; only = e.only }) c.args.world.now.ledger c.requires.held.now c.in_ok-outlook.outlook (c.in_ok-outlook.ensures.foretold (state_in c.args.self.now c.args.world.now) (state_with (state_in c.args.self.now c.args.world.now) c.args.self.now.numbers.present c.requires.held.sound c.space.result c.space.ensures.size (c.space.ensures.freeing ∙ c.len.ensures) c.space.ensures.waiting) c.group-synced.ensures))
+    let e = rw c.present.ensures at c.in_ok-apply_live.ensures in
+    (datasets_of (state_in c.args.self.now c.args.world.now), settles_now (state_in c.args.self.now c.args.world.now) c.args.self.now.numbers.present c.requires.held.sound c.group-synced.result.0 c.group-synced.ensures c.in_ok-name.name.now c.apply_live.new.self c.in-Ok.update c.from_ref.result.now c.from_ref.ensures.value (c.in_ok-outlook.ensures.ok (state_in c.args.self.now c.args.world.now) (state_with (state_in c.args.self.now c.args.world.now) c.args.self.now.numbers.present c.requires.held.sound c.space.result c.space.ensures.size (c.space.ensures.freeing ∙ c.len.ensures) c.space.ensures.waiting) c.group-synced.ensures) c.apply_live.new.draft (record { ok = e.ok; room = e.room; no_dataset = e.no_dataset; no_space = e.no_space; only = e.only }) c.args.world.now.ledger c.requires.held.now c.in_ok-outlook.outlook (c.in_ok-outlook.ensures.foretold (state_in c.args.self.now c.args.world.now) (state_with (state_in c.args.self.now c.args.world.now) c.args.self.now.numbers.present c.requires.held.sound c.space.result c.space.ensures.size (c.space.ensures.freeing ∙ c.len.ensures) c.space.ensures.waiting) c.group-synced.ensures))
 
 pub settle-requires-clause-unlimited : goal.settle-requires-clause-unlimited
 settle-requires-clause-unlimited c none =
-    let e = rw c.present.ensures at c.in_ok-done.ensures in
-    stays_now (state_in c.args.self.now c.args.world.now) c.args.self.now.numbers.present c.requires.held.sound c.group-synced.result.0 c.group-synced.ensures c.in_ok-name.name.now c.apply_live.new.self c.in-Ok.update c.from_ref.result.now c.from_ref.ensures.value (c.in_ok-outlook.ensures.ok (state_in c.args.self.now c.args.world.now) (state_with (state_in c.args.self.now c.args.world.now) c.args.self.now.numbers.present c.requires.held.sound c.space.result c.space.ensures.size (c.space.ensures.freeing ∙ c.len.ensures) c.space.ensures.waiting) c.group-synced.ensures) c.in_ok-done.done (record { ok = e.ok; room = e.room; no_dataset = e.no_dataset; no_space = e.no_space; only = e.only }) (unlimited c.args.self.now c.args.world.now c.requires.held none)
+    let e = rw c.present.ensures at c.in_ok-apply_live.ensures in
+    stays_now (state_in c.args.self.now c.args.world.now) c.args.self.now.numbers.present c.requires.held.sound c.group-synced.result.0 c.group-synced.ensures c.in_ok-name.name.now c.apply_live.new.self c.in-Ok.update c.from_ref.result.now c.from_ref.ensures.value (c.in_ok-outlook.ensures.ok (state_in c.args.self.now c.args.world.now) (state_with (state_in c.args.self.now c.args.world.now) c.args.self.now.numbers.present c.requires.held.sound c.space.result c.space.ensures.size (c.space.ensures.freeing ∙ c.len.ensures) c.space.ensures.waiting) c.group-synced.ensures) c.apply_live.new.draft (record { ok = e.ok; room = e.room; no_dataset = e.no_dataset; no_space = e.no_space; only = e.only }) (unlimited c.args.self.now c.args.world.now c.requires.held none)
 
 pub settle-requires-clause-few : goal.settle-requires-clause-few
 settle-requires-clause-few c =
-    let e = rw c.present.ensures at c.in_ok-done.ensures in
-    few (with_datasets (state_in c.args.self.now c.args.world.now) c.apply_live.new.self) _ (sound_changed (state_in c.args.self.now c.args.world.now) c.args.self.now.numbers.present c.requires.held.sound c.apply_live.new.self _ _ (can_now (state_in c.args.self.now c.args.world.now) c.args.self.now.numbers.present c.requires.held.sound c.group-synced.result.0 c.group-synced.ensures c.in_ok-name.name.now c.apply_live.new.self c.in-Ok.update c.from_ref.result.now c.from_ref.ensures.value (c.in_ok-outlook.ensures.ok (state_in c.args.self.now c.args.world.now) (state_with (state_in c.args.self.now c.args.world.now) c.args.self.now.numbers.present c.requires.held.sound c.space.result c.space.ensures.size (c.space.ensures.freeing ∙ c.len.ensures) c.space.ensures.waiting) c.group-synced.ensures) c.in_ok-done.done (record { ok = e.ok; room = e.room; no_dataset = e.no_dataset; no_space = e.no_space; only = e.only })))
+    let e = rw c.present.ensures at c.in_ok-apply_live.ensures in
+    few (with_datasets (state_in c.args.self.now c.args.world.now) c.apply_live.new.self) _ (sound_changed (state_in c.args.self.now c.args.world.now) c.args.self.now.numbers.present c.requires.held.sound c.apply_live.new.self _ _ (can_now (state_in c.args.self.now c.args.world.now) c.args.self.now.numbers.present c.requires.held.sound c.group-synced.result.0 c.group-synced.ensures c.in_ok-name.name.now c.apply_live.new.self c.in-Ok.update c.from_ref.result.now c.from_ref.ensures.value (c.in_ok-outlook.ensures.ok (state_in c.args.self.now c.args.world.now) (state_with (state_in c.args.self.now c.args.world.now) c.args.self.now.numbers.present c.requires.held.sound c.space.result c.space.ensures.size (c.space.ensures.freeing ∙ c.len.ensures) c.space.ensures.waiting) c.group-synced.ensures) c.apply_live.new.draft (record { ok = e.ok; room = e.room; no_dataset = e.no_dataset; no_space = e.no_space; only = e.only })))
 
 pub returns-clause-performed : goal.returns-clause-performed
 returns-clause-performed c q asks =
-    let e = rw c.present.ensures at c.in_ok-done.ensures in (
+    let e = rw c.present.ensures at c.in_ok-apply_live.ensures in (
       record {
-        sound = sound_changed (state_in c.args.self.now c.args.world.now) c.args.self.now.numbers.present c.requires.held.sound c.apply_live.new.self _ _ (can_now (state_in c.args.self.now c.args.world.now) c.args.self.now.numbers.present c.requires.held.sound c.group-synced.result.0 c.group-synced.ensures c.in_ok-name.name.now c.apply_live.new.self c.in-Ok.update c.from_ref.result.now c.from_ref.ensures.value (c.in_ok-outlook.ensures.ok (state_in c.args.self.now c.args.world.now) (state_with (state_in c.args.self.now c.args.world.now) c.args.self.now.numbers.present c.requires.held.sound c.space.result c.space.ensures.size (c.space.ensures.freeing ∙ c.len.ensures) c.space.ensures.waiting) c.group-synced.ensures) c.in_ok-done.done (record { ok = e.ok; room = e.room; no_dataset = e.no_dataset; no_space = e.no_space; only = e.only }));
+        sound = sound_changed (state_in c.args.self.now c.args.world.now) c.args.self.now.numbers.present c.requires.held.sound c.apply_live.new.self _ _ (can_now (state_in c.args.self.now c.args.world.now) c.args.self.now.numbers.present c.requires.held.sound c.group-synced.result.0 c.group-synced.ensures c.in_ok-name.name.now c.apply_live.new.self c.in-Ok.update c.from_ref.result.now c.from_ref.ensures.value (c.in_ok-outlook.ensures.ok (state_in c.args.self.now c.args.world.now) (state_with (state_in c.args.self.now c.args.world.now) c.args.self.now.numbers.present c.requires.held.sound c.space.result c.space.ensures.size (c.space.ensures.freeing ∙ c.len.ensures) c.space.ensures.waiting) c.group-synced.ensures) c.apply_live.new.draft (record { ok = e.ok; room = e.room; no_dataset = e.no_dataset; no_space = e.no_space; only = e.only }));
         kept = c.settle.ensures;
-        may = may_settle (state_in c.args.self.now c.args.world.now) c.args.self.now.numbers.present c.requires.held.sound c.group-synced.result.0 c.group-synced.ensures c.in_ok-name.name.now c.apply_live.new.self c.in-Ok.update c.from_ref.result.now c.from_ref.ensures.value (c.in_ok-outlook.ensures.ok (state_in c.args.self.now c.args.world.now) (state_with (state_in c.args.self.now c.args.world.now) c.args.self.now.numbers.present c.requires.held.sound c.space.result c.space.ensures.size (c.space.ensures.freeing ∙ c.len.ensures) c.space.ensures.waiting) c.group-synced.ensures) c.in_ok-done.done (record { ok = e.ok; room = e.room; no_dataset = e.no_dataset; no_space = e.no_space; only = e.only })
-            (batch_of c.args.update c.in-Ok.update c.in-Ok.is c.requires.batch) c.in_ok-path.path.value.before c.in_ok-path.ensures.path c.writes_after-writes.result (left_by c.in-Ok.update c.in_ok-path.path.value.before c.writes_after-writes.result c.group-group.result.0 c.args.world.now.table.group c.group-group.ensures c.deref.result.now c.in_ok-done.done.made.items c.deref.ensures.value c.writes_after-writes.ensures);
-        leads = leads_now (state_in c.args.self.now c.args.world.now) c.args.self.now.numbers.present c.requires.held.sound c.group-synced.result.0 c.group-synced.ensures c.in_ok-name.name.now c.apply_live.new.self c.in-Ok.update c.from_ref.result.now c.from_ref.ensures.value (c.in_ok-outlook.ensures.ok (state_in c.args.self.now c.args.world.now) (state_with (state_in c.args.self.now c.args.world.now) c.args.self.now.numbers.present c.requires.held.sound c.space.result c.space.ensures.size (c.space.ensures.freeing ∙ c.len.ensures) c.space.ensures.waiting) c.group-synced.ensures) c.in_ok-done.done (record { ok = e.ok; room = e.room; no_dataset = e.no_dataset; no_space = e.no_space; only = e.only })
-            (batch_of c.args.update c.in-Ok.update c.in-Ok.is c.requires.batch) c.in_ok-path.path.value.before c.in_ok-path.ensures.path c.writes_after-writes.result (left_by c.in-Ok.update c.in_ok-path.path.value.before c.writes_after-writes.result c.group-group.result.0 c.args.world.now.table.group c.group-group.ensures c.deref.result.now c.in_ok-done.done.made.items c.deref.ensures.value c.writes_after-writes.ensures);
+        may = may_settle (state_in c.args.self.now c.args.world.now) c.args.self.now.numbers.present c.requires.held.sound c.group-synced.result.0 c.group-synced.ensures c.in_ok-name.name.now c.apply_live.new.self c.in-Ok.update c.from_ref.result.now c.from_ref.ensures.value (c.in_ok-outlook.ensures.ok (state_in c.args.self.now c.args.world.now) (state_with (state_in c.args.self.now c.args.world.now) c.args.self.now.numbers.present c.requires.held.sound c.space.result c.space.ensures.size (c.space.ensures.freeing ∙ c.len.ensures) c.space.ensures.waiting) c.group-synced.ensures) c.apply_live.new.draft (record { ok = e.ok; room = e.room; no_dataset = e.no_dataset; no_space = e.no_space; only = e.only })
+            (batch_of c.args.update c.in-Ok.update c.in-Ok.is c.requires.batch) c.begin.new.self.before c.begin.ensures.path c.writes_after-writes.result (left_by c.in-Ok.update c.begin.new.self.before c.writes_after-writes.result c.group-group.result.0 c.args.world.now.table.group c.group-group.ensures c.as_slice.result.now c.apply_live.new.draft.made.items (c.as_slice.ensures ∙ ap (λ (d : Draft). d.made.items) c.deref.ensures) c.writes_after-writes.ensures);
+        leads = leads_now (state_in c.args.self.now c.args.world.now) c.args.self.now.numbers.present c.requires.held.sound c.group-synced.result.0 c.group-synced.ensures c.in_ok-name.name.now c.apply_live.new.self c.in-Ok.update c.from_ref.result.now c.from_ref.ensures.value (c.in_ok-outlook.ensures.ok (state_in c.args.self.now c.args.world.now) (state_with (state_in c.args.self.now c.args.world.now) c.args.self.now.numbers.present c.requires.held.sound c.space.result c.space.ensures.size (c.space.ensures.freeing ∙ c.len.ensures) c.space.ensures.waiting) c.group-synced.ensures) c.apply_live.new.draft (record { ok = e.ok; room = e.room; no_dataset = e.no_dataset; no_space = e.no_space; only = e.only })
+            (batch_of c.args.update c.in-Ok.update c.in-Ok.is c.requires.batch) c.begin.new.self.before c.begin.ensures.path c.writes_after-writes.result (left_by c.in-Ok.update c.begin.new.self.before c.writes_after-writes.result c.group-group.result.0 c.args.world.now.table.group c.group-group.ensures c.as_slice.result.now c.apply_live.new.draft.made.items (c.as_slice.ensures ∙ ap (λ (d : Draft). d.made.items) c.deref.ensures) c.writes_after-writes.ensures);
       },
-      done_now (state_in c.args.self.now c.args.world.now) c.args.self.now.numbers.present c.requires.held.sound c.group-synced.result.0 c.group-synced.ensures c.in_ok-name.name.now c.apply_live.new.self c.in-Ok.update c.from_ref.result.now c.from_ref.ensures.value (c.in_ok-outlook.ensures.ok (state_in c.args.self.now c.args.world.now) (state_with (state_in c.args.self.now c.args.world.now) c.args.self.now.numbers.present c.requires.held.sound c.space.result c.space.ensures.size (c.space.ensures.freeing ∙ c.len.ensures) c.space.ensures.waiting) c.group-synced.ensures) c.in_ok-done.done (record { ok = e.ok; room = e.room; no_dataset = e.no_dataset; no_space = e.no_space; only = e.only }) q (asks_here q c.args.target.now c.args.update c.in_ok-name.name.now (Ok c.in-Ok.update) c.in_ok-name.ensures.ok c.in-Ok.is asks),
+      done_now (state_in c.args.self.now c.args.world.now) c.args.self.now.numbers.present c.requires.held.sound c.group-synced.result.0 c.group-synced.ensures c.in_ok-name.name.now c.apply_live.new.self c.in-Ok.update c.from_ref.result.now c.from_ref.ensures.value (c.in_ok-outlook.ensures.ok (state_in c.args.self.now c.args.world.now) (state_with (state_in c.args.self.now c.args.world.now) c.args.self.now.numbers.present c.requires.held.sound c.space.result c.space.ensures.size (c.space.ensures.freeing ∙ c.len.ensures) c.space.ensures.waiting) c.group-synced.ensures) c.apply_live.new.draft (record { ok = e.ok; room = e.room; no_dataset = e.no_dataset; no_space = e.no_space; only = e.only }) q (asks_here q c.args.target.now c.args.update c.in_ok-name.name.now (Ok c.in-Ok.update) c.in_ok-name.ensures.ok c.in-Ok.is asks),
     )
 
 pub writes_after-writes-requires-clause-of_tree : goal.writes_after-writes-requires-clause-of_tree

@@ -27,7 +27,7 @@ pub returns-in_ok-keep-in-Silent-clause-part : goal.returns-in_ok-keep-in-Silent
 returns-in_ok-keep-in-Silent-clause-part c =
     let o = part_of_owner leaf_part c.args.old in
     let w = sym c.word_of.ensures ∙ ap word_said c.in-Silent.is in
-    c.in_ok-keep-in-Silent.ensures.ok ∙ sym (rebuilt_at_leaf (said c.args.updates.now) (number_of c.args.made.now) c.args.group.0 c.args.index o _ w)
+    c.in_ok-keep-in-Silent.ensures ∙ sym (rebuilt_at_leaf (said c.args.updates.now) (number_of c.args.made.now) c.args.group.0 c.args.index o _ w)
 
 pub returns-in_ok-keep-in-Silent-clause-touched : goal.returns-in_ok-keep-in-Silent-clause-touched
 returns-in_ok-keep-in-Silent-clause-touched c =

@@ -19,7 +19,7 @@ renew_node-requires g c =
     let p = c.in-Some.way.place in
     let w = c.in-Some.way.writes in
     let same : Some (inner_part g.C.Level.part c.args.owner.now.value) ≡ Some o =
-    ap (λ p. Some p) (sym c.own.ensures.same) ∙ ap (λ n. Some (inner_part g.C.Level.part n)) (sym c.in-Some-get_mut.ensures.value) in
+    ap (λ p. Some p) (sym c.own.ensures) ∙ ap (λ n. Some (inner_part g.C.Level.part n)) (sym c.in-Some-get_mut.ensures.value) in
     let way : IsWay s h j p w = subst (λ l. IsWay s l j p w) (let e : c.args.level - 1 ≡ h = omega (arith, c.requires.level) in e) c.in-Some.ensures.way in
     let sound : IsSoundKid (suc h) (Some o) = subst (IsSoundKid (suc h)) same c.requires.sound in
     let changed : touched s (suc h) j (Some o) ≡ true = subst (λ (x : Option Part). touched s (suc h) j x ≡ true) same c.requires.touched in

@@ -1,6 +1,12 @@
-use Rattle.std.proofs.Common.{◌+◌, ◌≤◌}
+-- Each leaf so far was counted.
+use Rattle.std.proofs.Common.{◌≡◌, ◌+◌, ◌≤◌}
+use Rattle.node.specs.Node.{leaf_part}
+use Rattle.tree.specs.Ahead.{nodes_to}
 use Rattle.tree.proofs.tree.Tree.read_ahead.Given as goal
 
--- of the five levels above at most sixteen nodes each were read, and of the leaves at most one for each place so far
 abbrev pub invariant-loop-at : goal.invariant-loop-at
-invariant-loop-at l = l.there ≤ 80 + l.at
+invariant-loop-at l = record {
+  counted : l.there ≡ l.initial.there + nodes_to leaf_part 0 l.at l.nodes l.leaves;
+  few : l.there ≤ l.initial.there + l.at;
+  most : l.initial.there ≤ 80;
+}

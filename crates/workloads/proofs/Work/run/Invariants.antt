@@ -1,5 +1,5 @@
 use Rattle.session.specs.declared.book.book.TheConstants.{CALL_LIMIT}
-use Rattle.session_workloads.proofs.work.Given as goal
+use Rattle.workloads.proofs.Work.run.Given as goal
 
 -- the session begins at the pool that it is handed, and takes as many calls as are asked
 abbrev pub ghosts-called : goal.ghosts-called
