@@ -31,7 +31,7 @@ use std::thread::Threads;
 /// How many blocks a pool has.
 const BLOCKS: u32 = 4_194_304;
 
-/// How many works a command line may name.
+/// How many works a command line may name: with more, status 2 comes after these.
 const MOST_WORKS: usize = 8;
 
 /// What to do.
@@ -84,23 +84,27 @@ impl Work {
             Work::Batch => trees::batch(alloc, count),
             Work::Walk => trees::walk(alloc, count),
             Work::TakeAndRelease => numbers::take_and_release(alloc, count),
-            Work::Apply => Ok(u64::from(writes::applied(
-                alloc,
-                Pool::create(alloc, 1, BLOCKS)?,
-                count,
-            )?)),
+            Work::Apply => {
+                let pool = fresh_pool(alloc)?;
+                Ok(u64::from(writes::applied(alloc, pool, count)?))
+            }
             Work::Session(callers) => {
-                let pool = Pool::create(alloc, 1, BLOCKS)?;
+                let pool = fresh_pool(alloc)?;
                 let done = callers::called::<Brand, _>(rt, alloc, pool, count, callers)?;
                 Ok(u64::from(done))
             }
             Work::Viewers { beside } => {
-                let pool = Pool::create(alloc, 1, BLOCKS)?;
+                let pool = fresh_pool(alloc)?;
                 let done = viewers::viewed::<Brand, _>(rt, alloc, pool, count, beside)?;
                 Ok(u64::from(done))
             }
         }
     }
+}
+
+/// The pool that a work on sessions begins with.
+fn fresh_pool(alloc: Global) -> Result<Pool, Refusal> {
+    Pool::create(alloc, 1, BLOCKS)
 }
 
 fn main(rt: HostRuntime) -> ExitCode {
@@ -126,5 +130,8 @@ fn main(rt: HostRuntime) -> ExitCode {
             return ExitCode::from(3);
         }
     }
-    ExitCode::SUCCESS
+    match words.next() {
+        Some(_) => ExitCode::from(2),
+        None => ExitCode::SUCCESS,
+    }
 }
