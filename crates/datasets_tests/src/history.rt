@@ -3,8 +3,7 @@ use base::name::{DsName, MarkName, SnapName, Target};
 use base::refusal::Refusal;
 use datasets::Table;
 use marks::bookmark;
-use snap::clones::clone_snapshot;
-use snap::{Guids, snapshot};
+use snap::{Guids, clones::clone_snapshot, snapshot};
 use std::alloc::Global;
 use std::slice::from_ref;
 

@@ -5,7 +5,7 @@ use base::name::{DsName, SnapName};
 use base::refusal::Refusal;
 use datasets::Table;
 use model::source::{Source, SourceName};
-use sends::sources::sources_of;
+use lookups::sources::sources_of;
 use snap::clones::promote;
 use std::alloc::Global;
 use toll::Toll;

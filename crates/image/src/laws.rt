@@ -1,5 +1,6 @@
-//! Laws of images, as the contract of a function without a body.
+//! Laws of images and of the roots of datasets, as contracts of functions without a body.
 ghost use Rattle.image.specs.ImageLaws.{WalksToContents, WalksAtEachMoment, HoldsTheRewrite, ChangesTellTheirWrites, HoldsThePath, WritesOfPathsAreOpen, ChangesKeepTheirSources, ReadsBack};
+ghost use Rattle.image.specs.Roots.{RootsAreWalked};
 
 /// Where an image holds a map's blocks, the walk from the map's root gives the map's contents. If the map's numbers are protected, this holds at
 /// every moment of writes to numbers that aren't protected. Once the new blocks of a rewrite are written too, the image holds the rewritten map;
@@ -15,4 +16,10 @@ pub fn image_laws()
     ensures path_open { WritesOfPathsAreOpen }
     ensures sources { ChangesKeepTheirSources }
     ensures read_back { ReadsBack }
+{}
+
+/// If each dataset of a world can be walked in the image from its root, then the walk from each root that `roots_of` gives for the world's table
+/// yields the contents of that root's dataset: the live map of its file system, or the snapshot that the root names.
+pub fn root_laws()
+    ensures walked { RootsAreWalked }
 {}

@@ -1,4 +1,4 @@
-//! The image of a pool: the blocks of its trees as bytes.
+//! The image of a pool: the blocks of its trees as bytes, what a change of a live map writes into it, and where the roots of the datasets are.
 //!
 //! An image is 512 bytes for each number of the pool, all zero at first. A block of level 0 holds its contents; a block above holds
 //! sixteen pointers of 32 bytes (profile, after the block pointers of the On-Disk Specification, chapter 2):
@@ -17,15 +17,21 @@
 #![tactic(auto)]
 
 mod block_bytes;
+mod contents;
 mod image;
 mod laws;
 mod many;
 mod new_blocks;
 mod output;
 mod path;
+mod roots;
 mod walk;
+mod writes;
 
 pub use block_bytes::ZEROS;
+pub use contents::Contents;
 pub use image::Image;
-pub use laws::image_laws;
+pub use laws::{image_laws, root_laws};
 pub use new_blocks::blocks_of;
+pub use roots::{DatasetRoot, roots_of};
+pub use writes::{ChangedPath, Writes, blocks_in, write_down, writes_after};

@@ -27,3 +27,6 @@ pub mod Applied
 pub mod Blocks
 pub mod Received
 pub mod Sends
+pub mod Both
+pub mod SourceNames
+pub mod Answered

@@ -5,3 +5,6 @@ pub mod Views
 pub mod Records
 pub mod Laws
 pub mod Sends
+-- What a host may conclude.
+pub mod Both
+pub mod Answered

@@ -14,8 +14,8 @@ use Rattle.world.specs.Blocks.{block_order as o, after}
 use Rattle.world.specs.Sets.{Has, AreDisjoint}
 use Rattle.world.proofs.lists.Lists.{from_listed}
 use Rattle.world.proofs.lists.SetCounts.{no-empty, has_some, from_union, in_retain, from_retain}
-use Rattle.destroyer.specs.Members.{dead_blocks, dead_set}
-use Rattle.destroyer.proofs.Together.{tree_lists}
+use Rattle.snap.specs.Members.{dead_blocks, dead_set}
+use Rattle.snap.proofs.Together.{tree_lists}
 use Rattle.layers_tests.specs.Rising.{AreRising}
 
 -- all were born after a group

@@ -2,7 +2,7 @@
 use base::number::{Group, Guid};
 use model::snapshot_id::SnapshotId;
 use std::alloc::Global;
-use views::{VIEW_LIMIT, Views};
+use snap::{VIEW_LIMIT, Views};
 
 const OLD: SnapshotId = SnapshotId {
     group: Group(7),

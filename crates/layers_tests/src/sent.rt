@@ -2,7 +2,7 @@
 use crate::streams::{EMPTY, FIRST, SECOND, next_bytes, one_leaf_bytes};
 use base::number::{BlockNo, Group, Guid};
 use base::refusal::Refusal;
-use sends::{records, stream_bytes};
+use lookups::{records, stream_bytes};
 use std::alloc::Global;
 use std::process::Abort;
 use stream::Record;

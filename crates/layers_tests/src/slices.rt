@@ -9,7 +9,7 @@ ghost use Rattle.layers_tests.specs.Rising.{AreRising};
 use base::number::{BlockNo, Dead, Group, Key};
 use base::refusal::Refusal;
 use deadlist::deadlist::Deadlist;
-use destroyer::{Freeing, Slice};
+use snap::{Freeing, Slice};
 use std::alloc::Global;
 use std::sync::Arc;
 use tree::{Draft, Subtree, Tree, Update};

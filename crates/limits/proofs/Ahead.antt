@@ -30,11 +30,11 @@ use Rattle.world.proofs.lists.SetCounts.{no-empty, from_union, len-difference, l
 use Rattle.datasets.proofs.Above.{below_is_map, newest_is}
 use Rattle.datasets.specs.Dead.{newest_blocks}
 use Rattle.datasets.specs.Clones.{below_in}
-use Rattle.accounts.specs.Forecasts.{count_after, count_before, IsOutlook, outlook_here}
-use Rattle.accounts.proofs.Forecasts.{outlook, asked_used_here}
-use Rattle.accounts.proofs.Replaced.{origin_high}
-use Rattle.accounts.proofs.Surveyed.{count_split as split}
-use Rattle.accounts.proofs.AskedNumbers.{once_of_pair}
+use Rattle.limits.specs.Forecasts.{count_after, count_before, IsOutlook, outlook_here}
+use Rattle.limits.proofs.Forecasts.{outlook, asked_used_here}
+use Rattle.limits.proofs.Replaced.{origin_high}
+use Rattle.limits.proofs.Surveyed.{count_split as split}
+use Rattle.limits.proofs.AskedNumbers.{once_of_pair}
 use Rattle.limits.specs.Outlooks.{IsAhead, ahead}
 
 -- a count of blocks that were let go

@@ -15,10 +15,10 @@ use Rattle.model.specs.Fits.{quotas_hold, refquotas_hold, pool_holds}
 use Rattle.model.specs.Rule.{first_of}
 use Rattle.model.specs.State.{State}
 use Rattle.model.specs.requests.Change.{limit_row}
-use Rattle.accounts.specs.Levels.{slashes, IsUnder, charge_of}
-use Rattle.accounts.specs.Limits.{AreQuotasMet}
-use Rattle.accounts.proofs.Names.{under_or_not}
-use Rattle.accounts.proofs.Limits.{met_quotas, met_refquotas}
+use Rattle.limits.specs.Levels.{slashes, IsUnder, charge_of}
+use Rattle.limits.specs.Limits.{AreQuotasMet}
+use Rattle.limits.proofs.Names.{under_or_not}
+use Rattle.limits.proofs.Limits.{met_quotas, met_refquotas}
 use Rattle.limits.specs.declared.account.Account.{Account}
 use Rattle.limits.specs.declared.line.Line.{Line}
 use Rattle.limits.specs.Lines.{used_in, charge_in, is_in_quota, is_in_refquota}

@@ -13,10 +13,10 @@ use Rattle.world.specs.Trees.{total}
 use Rattle.world.proofs.lists.Finding.{name_itself, one_name}
 use Rattle.world.proofs.lists.Maps.{same_value}
 use Rattle.world.proofs.lineage.Put.{parent_there}
-use Rattle.accounts.specs.Levels.{slashes, charge_of}
-use Rattle.accounts.proofs.Levels.{used_by_children_is, used-split}
-use Rattle.accounts.proofs.Names.{is_child, child_is, in_keys, keys_once, in_children, level_up}
-use Rattle.accounts.proofs.Totals.{total_same, total_more, total_plus, total_swap, but, set_apart}
+use Rattle.limits.specs.Levels.{slashes, charge_of}
+use Rattle.limits.proofs.Levels.{used_by_children_is, used-split}
+use Rattle.limits.proofs.Names.{is_child, child_is, in_keys, keys_once, in_children, level_up}
+use Rattle.limits.proofs.Totals.{total_same, total_more, total_plus, total_swap, but, set_apart}
 
 -- a sum over those that a filter keeps
 total_filter : {A : Type 0} (p : A → Bool) (f : A → ℕ) (xs : List A) → total f (filter p xs) ≡ total (λ x. cond (p x) (f x) 0) xs

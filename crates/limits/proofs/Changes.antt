@@ -10,10 +10,10 @@ use Rattle.model.specs.Hierarchy.{IsHierarchy}
 use Rattle.model.specs.Sums.{used_of, used_here, used_by_children, referenced_of}
 use Rattle.world.proofs.lists.Maps.{no_value, same_value}
 use Rattle.world.proofs.lineage.Put.{parent_there}
-use Rattle.accounts.specs.Levels.{slashes, above, IsUnder, charge_of}
-use Rattle.accounts.proofs.Names.{level_up, above_is, under_child}
-use Rattle.accounts.proofs.Levels.{reserved_is, used-split}
-use Rattle.accounts.proofs.Depth.{used_away, own_children, children_walk, change_stops}
+use Rattle.limits.specs.Levels.{slashes, above, IsUnder, charge_of}
+use Rattle.limits.proofs.Names.{level_up, above_is, under_child}
+use Rattle.limits.proofs.Levels.{reserved_is, used-split}
+use Rattle.limits.proofs.Depth.{used_away, own_children, children_walk, change_stops}
 use Rattle.limits.specs.declared.line.Line.{Line}
 use Rattle.limits.specs.Lines.{used_in, charge_in}
 use Rattle.limits.specs.Ledgers.{line_in, ledger_of}

@@ -12,9 +12,9 @@ use Rattle.model.specs.Hierarchy.{FileSystems, IsHierarchy}
 use Rattle.model.specs.Sums.{used_here, used_by_children, reservation_of}
 use Rattle.world.specs.Trees.{total}
 use Rattle.world.proofs.lists.Maps.{same_value, no_value}
-use Rattle.accounts.specs.Levels.{charge_of}
-use Rattle.accounts.proofs.Levels.{reserved_is, used_by_children_is, used-split}
-use Rattle.accounts.proofs.Names.{is_child, child_is, is_child_of}
+use Rattle.limits.specs.Levels.{charge_of}
+use Rattle.limits.proofs.Levels.{reserved_is, used_by_children_is, used-split}
+use Rattle.limits.proofs.Names.{is_child, child_is, is_child_of}
 use Rattle.limits.specs.declared.account.Account.{Account}
 use Rattle.limits.specs.declared.line.Line.{Line}
 use Rattle.limits.specs.Lines.{used_in, reserved_in, charge_in, IsSmall}

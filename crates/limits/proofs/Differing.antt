@@ -12,10 +12,10 @@ use Rattle.model.specs.Sums.{used_of, used_by_children}
 use Rattle.world.specs.Shapes.{name_order}
 use Rattle.world.specs.Usage.{IsEntry}
 use Rattle.world.proofs.lists.Maps.{at_entry}
-use Rattle.accounts.specs.Levels.{slashes, IsUnder, charge_of}
-use Rattle.accounts.proofs.Names.{level_up, above_is, in_keys, under_or_not}
-use Rattle.accounts.proofs.Levels.{reserved_is, no_charge, nothing_used, used-split}
-use Rattle.accounts.proofs.Depth.{used_away, children_walk}
+use Rattle.limits.specs.Levels.{slashes, IsUnder, charge_of}
+use Rattle.limits.proofs.Names.{level_up, above_is, in_keys, under_or_not}
+use Rattle.limits.proofs.Levels.{reserved_is, no_charge, nothing_used, used-split}
+use Rattle.limits.proofs.Depth.{used_away, children_walk}
 use Rattle.limits.specs.declared.line.Line.{Line}
 use Rattle.limits.specs.Lines.{used_in, charge_in}
 use Rattle.limits.specs.Ledgers.{line_in, ledger_of}

@@ -16,8 +16,8 @@ use Rattle.world.specs.Takings.{AreTakable}
 use Rattle.world.specs.Worlds.{AreFileSystems}
 use Rattle.world.proofs.lists.Maps.{same_value}
 use Rattle.datasets.specs.Rows.{Row}
-use Rattle.accounts.proofs.Forecasts.{asked_systems, asked_there}
-use Rattle.accounts.proofs.Taken.{taken_here, taken_referenced, taken_reach}
+use Rattle.limits.proofs.Forecasts.{asked_systems, asked_there}
+use Rattle.limits.proofs.Taken.{taken_here, taken_referenced, taken_reach}
 use Rattle.limits.specs.Outlooks.{IsAhead, IsTallyOf, IsKeptOutlookOf, ahead, kept_ahead}
 use Rattle.limits.specs.declared.outlook.outlook.Outlook.{Outlook}
 use Rattle.limits.specs.declared.outlook.outlook.Tally.{Tally}

@@ -10,10 +10,10 @@ use Rattle.model.specs.Hierarchy.{IsHierarchy}
 use Rattle.model.specs.Sums.{used_by_children}
 use Rattle.world.proofs.lists.Maps.{no_value, same_value}
 use Rattle.world.proofs.lineage.Put.{parent_there}
-use Rattle.accounts.specs.Levels.{slashes, IsUnder, charge_of}
-use Rattle.accounts.proofs.Names.{level_up, under_itself, under_child}
-use Rattle.accounts.proofs.Levels.{no_charge}
-use Rattle.accounts.proofs.Depth.{children_walk}
+use Rattle.limits.specs.Levels.{slashes, IsUnder, charge_of}
+use Rattle.limits.proofs.Names.{level_up, under_itself, under_child}
+use Rattle.limits.proofs.Levels.{no_charge}
+use Rattle.limits.proofs.Depth.{children_walk}
 use Rattle.datasets.specs.Places.{IsAt, IsGapFor}
 use Rattle.limits.specs.declared.line.Line.{Line}
 use Rattle.limits.specs.Lines.{used_in, charge_in}

@@ -14,8 +14,8 @@ use Rattle.model.specs.Fits.{quotas_hold, refquotas_hold, pool_holds}
 use Rattle.model.specs.Rule.{first_of}
 use Rattle.model.specs.requests.Change.{limit_row}
 use Rattle.world.proofs.lists.Maps.{same_value, no_value}
-use Rattle.accounts.proofs.Levels.{reserved_is}
-use Rattle.accounts.proofs.Pool.{pool_holds_is}
+use Rattle.limits.proofs.Levels.{reserved_is}
+use Rattle.limits.proofs.Pool.{pool_holds_is}
 use Rattle.limits.specs.declared.line.Line.{Line}
 use Rattle.limits.specs.declared.pool_space.Space.{Space}
 use Rattle.limits.specs.Lines.{reserved_in, charge_in, is_in_quota, is_in_refquota}

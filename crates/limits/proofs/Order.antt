@@ -15,7 +15,7 @@ use Rattle.model.specs.World.{FileSystem, empty_file_system}
 use Rattle.model.specs.Hierarchy.{FileSystems, IsHierarchy}
 use Rattle.world.proofs.lists.Maps.{same_value, no_value}
 use Rattle.world.proofs.lineage.Put.{parent_there}
-use Rattle.accounts.proofs.Names.{is_child, child_is, in_keys}
+use Rattle.limits.proofs.Names.{is_child, child_is, in_keys}
 use Rattle.limits.specs.Charges.{children_from}
 use Rattle.snapshots.proofs.Sorted.{sorted_at, find_at}
 

@@ -17,7 +17,7 @@ use Rattle.datasets.specs.Clones.{row_in}
 use Rattle.datasets.specs.Places.{IsAt, IsGapFor}
 use Rattle.datasets.proofs.Rows.{searched, row_of, true_from}
 use Rattle.snapshots.proofs.Sorted.{find_at, find_gap}
-use Rattle.accounts.proofs.Names.{in_keys, from_keys, parent_in}
+use Rattle.limits.proofs.Names.{in_keys, from_keys, parent_in}
 use Rattle.limits.specs.Places.{IsParentAt}
 use Rattle.limits.proofs.Order.{no_entry, keys_long, key_is, entry_at}
 

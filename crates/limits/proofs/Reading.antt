@@ -9,9 +9,9 @@ use Rattle.model.specs.Hierarchy.{IsHierarchy}
 use Rattle.model.specs.Sums.{used_by_children}
 use Rattle.world.specs.Tables.{Datasets, world_of}
 use Rattle.world.proofs.lists.Maps.{same_value}
-use Rattle.accounts.specs.Levels.{IsUnder}
-use Rattle.accounts.proofs.Names.{under_itself}
-use Rattle.accounts.proofs.Depth.{own_children}
+use Rattle.limits.specs.Levels.{IsUnder}
+use Rattle.limits.proofs.Names.{under_itself}
+use Rattle.limits.proofs.Depth.{own_children}
 use Rattle.datasets.specs.Places.{IsAt}
 use Rattle.datasets.specs.Rows.{Row}
 use Rattle.limits.specs.declared.account.Account.{Account}

@@ -12,10 +12,10 @@ use Rattle.model.specs.Sums.{size_without, referenced_of}
 use Rattle.world.specs.Tables.{Datasets, world_of}
 use Rattle.world.specs.Worlds.{AreFileSystems}
 use Rattle.world.proofs.lists.Maps.{no_value, same_value}
-use Rattle.accounts.specs.Levels.{IsSameHere, AreSameBut}
-use Rattle.accounts.specs.Limits.{AreShrunk}
-use Rattle.accounts.proofs.Levels.{reserved_is, no_reservation, nothing_here}
-use Rattle.accounts.proofs.Shrinks.{origin_kept}
+use Rattle.limits.specs.Levels.{IsSameHere, AreSameBut}
+use Rattle.limits.specs.Limits.{AreShrunk}
+use Rattle.limits.proofs.Levels.{reserved_is, no_reservation, nothing_here}
+use Rattle.limits.proofs.Shrinks.{origin_kept}
 use Rattle.datasets.specs.Dead.{newest_blocks}
 use Rattle.datasets.specs.Clones.{below_in, row_in}
 use Rattle.datasets.proofs.Above.{below_is_map}

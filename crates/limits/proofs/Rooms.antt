@@ -12,10 +12,10 @@ use Rattle.model.specs.Sums.{used_of, unspent_of, within_quota, pool_room, room_
 use Rattle.world.specs.Tables.{Datasets, world_of}
 use Rattle.world.proofs.lists.Maps.{no_value, some_of}
 use Rattle.world.proofs.lineage.Put.{parent_there}
-use Rattle.accounts.specs.Levels.{slashes}
-use Rattle.accounts.proofs.Names.{in_keys, from_keys, level_low, parent_in}
-use Rattle.accounts.proofs.Levels.{reserved_is}
-use Rattle.accounts.proofs.Available.{room_root, room_below}
+use Rattle.limits.specs.Levels.{slashes}
+use Rattle.limits.proofs.Names.{in_keys, from_keys, level_low, parent_in}
+use Rattle.limits.proofs.Levels.{reserved_is}
+use Rattle.limits.proofs.Available.{room_root, room_below}
 use Rattle.datasets.specs.Places.{IsAt}
 use Rattle.snapshots.proofs.Sorted.{find_at}
 use Rattle.limits.specs.declared.line.Line.{Line}

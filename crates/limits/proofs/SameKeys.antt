@@ -15,7 +15,7 @@ use Rattle.world.specs.Tables.{world_of}
 use Rattle.world.proofs.lists.Maps.{no_value}
 use Rattle.world.proofs.removals.Sweep.{get-with_file_systems}
 use Rattle.snapshots.proofs.Sorted.{less_from, T_left, T_right}
-use Rattle.accounts.proofs.Names.{in_keys, from_keys}
+use Rattle.limits.proofs.Names.{in_keys, from_keys}
 
 abbrev Entries : Type 0
 Entries = List (List ℕ × FileSystem)

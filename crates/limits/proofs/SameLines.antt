@@ -7,9 +7,9 @@ use Rattle.model.specs.Hierarchy.{FileSystems, IsHierarchy}
 use Rattle.model.specs.Sums.{used_by_children, referenced_of}
 use Rattle.world.specs.Shapes.{name_order}
 use Rattle.world.proofs.lists.Maps.{no_value, key_cases}
-use Rattle.accounts.specs.Levels.{IsSameHere, AreSameBut}
-use Rattle.accounts.proofs.Levels.{no_reservation, nothing_here}
-use Rattle.accounts.proofs.Depth.{children_change}
+use Rattle.limits.specs.Levels.{IsSameHere, AreSameBut}
+use Rattle.limits.proofs.Levels.{no_reservation, nothing_here}
+use Rattle.limits.proofs.Depth.{children_change}
 use Rattle.limits.specs.declared.line.Line.{Line}
 use Rattle.limits.specs.Changes.{IsRecounted}
 use Rattle.limits.specs.Ledgers.{line_in, ledger_of}

@@ -6,8 +6,8 @@ use Rattle.std.proofs.lemmas.List.{get_or_default}
 use Rattle.model.specs.World.{World, FileSystem}
 use Rattle.model.specs.Hierarchy.{IsHierarchy}
 use Rattle.world.proofs.lists.Maps.{no_value, same_value}
-use Rattle.accounts.specs.Levels.{IsUnder}
-use Rattle.accounts.proofs.Names.{under_itself}
+use Rattle.limits.specs.Levels.{IsUnder}
+use Rattle.limits.proofs.Names.{under_itself}
 use Rattle.limits.specs.declared.line.Line.{Line}
 use Rattle.limits.specs.Lines.{used_in, charge_in}
 use Rattle.limits.specs.Changes.{IsModest, IsChanged, IsRecounted, IsLedgerOf, CanWalkUp, IsBehind, line_under, amended}

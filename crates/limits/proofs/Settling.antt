@@ -9,8 +9,8 @@ use Rattle.base.specs.Names.{parent_of}
 use Rattle.base.specs.Surveys.{IsIn}
 use Rattle.model.specs.World.{World}
 use Rattle.model.specs.Hierarchy.{FileSystems}
-use Rattle.accounts.specs.Levels.{slashes, above, IsUnder}
-use Rattle.accounts.proofs.Names.{level_up, above_is, under_itself, under_child, in_keys, parent_in}
+use Rattle.limits.specs.Levels.{slashes, above, IsUnder}
+use Rattle.limits.proofs.Names.{level_up, above_is, under_itself, under_child, in_keys, parent_in}
 use Rattle.world.proofs.lists.Maps.{no_value, same_value}
 use Rattle.limits.specs.declared.line.Line.{Line}
 use Rattle.limits.specs.Lines.{used_in, charge_in}

@@ -8,9 +8,9 @@ use Rattle.base.specs.Surveys.{IsIn}
 use Rattle.model.specs.World.{World, Limits}
 use Rattle.model.specs.Hierarchy.{IsHierarchy}
 use Rattle.model.specs.Sums.{used_here, reservation_of}
-use Rattle.accounts.specs.Levels.{above, IsUnder, charge_of}
-use Rattle.accounts.proofs.Names.{under_itself, under_child}
-use Rattle.accounts.proofs.Levels.{reserved_is}
+use Rattle.limits.specs.Levels.{above, IsUnder, charge_of}
+use Rattle.limits.proofs.Names.{under_itself, under_child}
+use Rattle.limits.proofs.Levels.{reserved_is}
 use Rattle.limits.specs.declared.line.Line.{Line}
 use Rattle.limits.specs.Lines.{used_in, charge_in}
 use Rattle.limits.specs.Ledgers.{line_in, ledger_of}

@@ -9,7 +9,7 @@ use Rattle.model.specs.World.{World, FileSystem, Live, no_limits}
 use Rattle.model.specs.Hierarchy.{IsHierarchy}
 use Rattle.model.specs.Sums.{used_here, referenced_of}
 use Rattle.model.specs.Fits.{quotas_hold, refquotas_hold}
-use Rattle.accounts.specs.Levels.{IsUnder, AreSameBut, charge_of}
+use Rattle.limits.specs.Levels.{IsUnder, AreSameBut, charge_of}
 use Rattle.limits.specs.declared.line.Line.{Line}
 use Rattle.limits.specs.Lines.{used_in, reserved_in, charge_in}
 use Rattle.limits.specs.Ledgers.{line_in, ledger_of}

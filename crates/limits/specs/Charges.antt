@@ -7,7 +7,7 @@ use Rattle.base.specs.Names.{same_name, parent_of}
 use Rattle.model.specs.World.{World}
 use Rattle.model.specs.Hierarchy.{FileSystems, IsHierarchy}
 use Rattle.world.specs.Trees.{total}
-use Rattle.accounts.specs.Levels.{charge_of}
+use Rattle.limits.specs.Levels.{charge_of}
 use Rattle.limits.specs.declared.account.Account.{Account}
 use Rattle.limits.specs.declared.line.Line.{Line}
 use Rattle.limits.specs.Ledgers.{accounts_in}

@@ -10,7 +10,7 @@ ghost use Rattle.model.specs.State.{State};
 ghost use Rattle.model.specs.World.{World};
 ghost use Rattle.model.specs.requests.Change.{limit_row};
 ghost use Rattle.world.specs.Tables.{world_of};
-ghost use Rattle.accounts.specs.Limits.{AreQuotasMet};
+ghost use Rattle.limits.specs.Limits.{AreQuotasMet};
 ghost use Rattle.limits.specs.Lines.{used_in, charge_in, IsSmall};
 ghost use Rattle.limits.specs.Ledgers.{ledger_of, IsSpaceOf};
 ghost use Rattle.limits.specs.Places.{IsParentAt};

@@ -10,7 +10,7 @@ ghost use Rattle.model.specs.Sums.{used_of, used_by_children, room_of};
 ghost use Rattle.model.specs.World.{union_of};
 ghost use Rattle.model.specs.requests.Change.{limit_row};
 ghost use Rattle.world.specs.Tables.{world_of};
-ghost use Rattle.accounts.specs.Levels.{slashes};
+ghost use Rattle.limits.specs.Levels.{slashes};
 ghost use Rattle.limits.specs.Lines.{IsSmall};
 ghost use Rattle.limits.specs.Ledgers.{line_in, ledger_of, IsSpaceOf};
 

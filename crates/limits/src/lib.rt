@@ -1,7 +1,8 @@
 //! The limits of file systems: which one a world breaks, what each file system uses, and what is available to it, from counts that are kept for
 //! each file system (zfsprops(7): quota, refquota, reservation, refreservation, used, available).
 //!
-//! Nothing here visits a block.
+//! Nothing here visits a block. Lemmas say how the definitions of sums are computed from dead lists, along lineages, up the hierarchy and where
+//! no limit is set, and which changes keep the limits.
 #![tactic(auto)]
 
 mod account;

@@ -25,7 +25,7 @@ use Rattle.datasets.specs.Splices.{oldest_blocks}
 use Rattle.datasets.specs.Clones.{below_in, row_in}
 use Rattle.datasets.specs.Table.{IsTable}
 use Rattle.datasets.proofs.Above.{below_is}
-use Rattle.accounts.specs.Space.{with_next}
+use Rattle.limits.specs.Space.{with_next}
 use Rattle.lookups.specs.Since.{dead_reach}
 
 -- what comes next after a stretch stands between the two, and nothing after it does

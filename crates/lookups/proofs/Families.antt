@@ -16,11 +16,11 @@ use Rattle.datasets.specs.Clones.{row_in}
 use Rattle.model.specs.Hierarchy.{is_in_family}
 use Rattle.snap.proofs.Rests.{next_left}
 use Rattle.datasets.proofs.Above.{below_is_map}
-use Rattle.accounts.specs.Limits.{IsUnlimited}
-use Rattle.accounts.specs.Space.{own_of}
-use Rattle.accounts.proofs.Totals.{sum-total}
-use Rattle.accounts.proofs.Space.{own_total}
-use Rattle.accounts.proofs.Family.{used_unlimited, used_by_refreservation_unlimited}
+use Rattle.limits.specs.Limits.{IsUnlimited}
+use Rattle.limits.specs.Space.{own_of}
+use Rattle.limits.proofs.Totals.{sum-total}
+use Rattle.limits.proofs.Space.{own_total}
+use Rattle.limits.proofs.Family.{used_unlimited, used_by_refreservation_unlimited}
 use Rattle.lookups.specs.Used.{own_in, own_within}
 
 -- ---- a sum over a walk

@@ -10,3 +10,10 @@ pub mod Ranges
 pub mod Lineages
 pub mod Places
 pub mod Struck
+pub mod SentPlaces
+pub mod Listed
+pub mod SourceLists
+pub mod SourceLineages
+pub mod Starts
+pub mod Rows
+pub mod SourcesOf

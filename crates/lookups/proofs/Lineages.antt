@@ -24,10 +24,10 @@ use Rattle.datasets.specs.Rows.{Row}
 use Rattle.datasets.specs.Clones.{row_in}
 use Rattle.datasets.specs.Table.{IsTable, AreSnapshotsClosed}
 use Rattle.datasets.proofs.Removed.{are_above}
-use Rattle.accounts.specs.Space.{IsPath, on_path, with_next}
-use Rattle.accounts.proofs.Older.{previous_there, not_older_low}
-use Rattle.accounts.proofs.Next.{newest_last, next_there, next_previous}
-use Rattle.accounts.proofs.Walks.{path_join, on_path_join, on_path_range, path_in, older_in}
+use Rattle.limits.specs.Space.{IsPath, on_path, with_next}
+use Rattle.limits.proofs.Older.{previous_there, not_older_low}
+use Rattle.limits.proofs.Next.{newest_last, next_there, next_previous}
+use Rattle.limits.proofs.Walks.{path_join, on_path_join, on_path_range, path_in, older_in}
 use Rattle.lookups.specs.Places.{dataset_at, IsPlace, IsHome}
 use Rattle.lookups.specs.Since.{is_before, dead_reach, IsDeadSince, HasReached}
 use Rattle.lookups.proofs.Between.{IsStretch, first_group, stretch_until, gone_by, gone_reach}

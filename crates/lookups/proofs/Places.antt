@@ -28,8 +28,8 @@ use Rattle.datasets.specs.Clones.{row_in, below_in}
 use Rattle.datasets.specs.Splices.{AreAbove}
 use Rattle.datasets.specs.Table.{IsTable}
 use Rattle.datasets.proofs.Removed.{are_above}
-use Rattle.accounts.proofs.Older.{older_has}
-use Rattle.accounts.proofs.Written.{written_since_is}
+use Rattle.limits.proofs.Older.{older_has}
+use Rattle.limits.proofs.Written.{written_since_is}
 use Rattle.lookups.specs.Places.{snapshot_place, place_named, dataset_at, map_at, IsPlace, IsHome}
 use Rattle.lookups.specs.Since.{dataset_named, is_named_before, is_before, since_refusal, written_named, IsDeadSince}
 

@@ -35,9 +35,9 @@ use Rattle.datasets.specs.Table.{IsTable}
 use Rattle.datasets.proofs.ClonesOf.{none_counted}
 use Rattle.datasets.proofs.Above.{snap_above}
 use Rattle.datasets.proofs.Removed.{are_above}
-use Rattle.accounts.specs.Space.{newest_group, on_path, with_next}
-use Rattle.accounts.proofs.Ranges.{three_parts, would_free_is}
-use Rattle.accounts.proofs.Walks.{on_path_range}
+use Rattle.limits.specs.Space.{newest_group, on_path, with_next}
+use Rattle.limits.proofs.Ranges.{three_parts, would_free_is}
+use Rattle.limits.proofs.Walks.{on_path_range}
 use Rattle.lookups.specs.Ranges.{group_at, lacks, is_in_range, range_ids, range_refusal, is_cloned, has_clone_between, group_after, older_than, newer_than, after_first, range_reach, IsRange}
 use Rattle.lookups.specs.Since.{dead_reach}
 use Rattle.lookups.proofs.Between.{IsStretch, first, first_group, stretch_until, dead_snap, gone_reach, gone_since}

@@ -32,9 +32,9 @@ use Rattle.datasets.specs.Table.{IsTable}
 use Rattle.datasets.proofs.Above.{below_is, below_is_map}
 use Rattle.datasets.proofs.Removed.{rising_at, older_differ}
 use Rattle.snap.proofs.Rests.{next_left}
-use Rattle.accounts.specs.Space.{oldest_in, next_map}
-use Rattle.accounts.proofs.Clones.{used_by_snap_struck}
-use Rattle.accounts.proofs.Next.{next_map_is}
+use Rattle.limits.specs.Space.{oldest_in, next_map}
+use Rattle.limits.proofs.Clones.{used_by_snap_struck}
+use Rattle.limits.proofs.Next.{next_map_is}
 use Rattle.lookups.specs.Alone.{IsCloneAbove, struck}
 use Rattle.lookups.specs.Places.{IsPlace}
 use Rattle.datasets.proofs.Holders.{found_place}

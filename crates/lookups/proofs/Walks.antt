@@ -16,7 +16,7 @@ use Rattle.world.specs.Tables.{Datasets}
 use Rattle.world.specs.Worlds.{AreRising}
 use Rattle.world.proofs.lineage.Bridge.{rising_above, rising_after}
 use Rattle.world.proofs.lists.Finding.{append_none, filter_join}
-use Rattle.accounts.specs.Space.{newest_group}
+use Rattle.limits.specs.Space.{newest_group}
 use Rattle.lookups.specs.Ranges.{is_cloned, has_clone_between, group_after, older_than}
 
 -- those that were yielded, and then those that are left

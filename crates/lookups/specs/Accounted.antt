@@ -1,7 +1,7 @@
 -- The ledger that is kept of datasets.
 use Rattle.std.specs.Prelude.{◌≡◌, List, Option, None, Some}
 use Rattle.world.specs.Tables.{Datasets, world_of}
-use Rattle.accounts.specs.Limits.{IsUnlimited}
+use Rattle.limits.specs.Limits.{IsUnlimited}
 use Rattle.limits.specs.declared.line.Line.{Line}
 use Rattle.limits.specs.Ledgers.{ledger_of}
 

@@ -6,7 +6,7 @@ use Rattle.model.specs.World.{FileSystem}
 use Rattle.world.specs.Sets.{Has}
 use Rattle.world.specs.Tables.{Datasets, world_of}
 use Rattle.datasets.specs.Clones.{below_in}
-use Rattle.accounts.specs.Space.{oldest_in, without_each}
+use Rattle.limits.specs.Space.{oldest_in, without_each}
 
 -- a file system whose origin has all these blocks (zfs-clone(8))
 pub record IsCloneAbove (t : Datasets) (bs : BlockSet) (name : List ℕ) : Type 0 where

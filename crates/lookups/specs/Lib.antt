@@ -7,3 +7,8 @@ pub mod Ranges
 pub mod Places
 pub mod Since
 pub mod Alone
+-- The records of a send.
+pub mod Walk
+-- Where sends may start in a table.
+pub mod Sources
+pub mod Starts

@@ -14,7 +14,7 @@ use Rattle.world.specs.Dead.{next_in}
 use Rattle.world.specs.Tables.{Datasets, world_of}
 use Rattle.datasets.specs.Rows.{Row}
 use Rattle.datasets.specs.Clones.{row_in}
-use Rattle.accounts.specs.Space.{on_path}
+use Rattle.limits.specs.Space.{on_path}
 use Rattle.lookups.specs.Since.{dead_reach}
 
 -- the creation group of the snapshot of this name within a file system (zfsprops(7): createtxg)

@@ -16,7 +16,7 @@ use Rattle.world.specs.Dead.{dead_of}
 use Rattle.world.specs.Sums.{dead_by}
 use Rattle.world.specs.Tables.{Datasets, world_of}
 use Rattle.datasets.specs.Gone.{most_reached}
-use Rattle.accounts.specs.Space.{IsPath, on_path}
+use Rattle.limits.specs.Space.{IsPath, on_path}
 
 -- the dataset of a name, and none where it isn't there (zfs(8))
 abbrev pub dataset_named : Datasets → Target → Option Dataset

@@ -17,13 +17,12 @@ use base::meter::SegMeter;
 use base::name::{DsName, Tag, Target};
 use base::refusal::Refusal;
 use datasets::{Snapshot, Table};
-use destroyer::Freeing;
+use snap::{Freeing, Views};
 use model::snapshot_id::SnapshotId;
 use removals::WorkingCopy;
 use snapshots::holds::Holds;
 use std::alloc::Global;
 use std::sync::Arc;
-use views::Views;
 
 /// Removes this tag from the snapshot that the target names (zfs-release(8), without -r). The snapshot is destroyed if its destroy is deferred
 /// and no other tag, no open view and no clone needs it (zfs-destroy(8), -d); the blocks that no dataset has any more are then to be freed.

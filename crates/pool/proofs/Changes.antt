@@ -37,12 +37,12 @@ use Rattle.steps.proofs.asked.Settled.{can_settle}
 use Rattle.steps.proofs.requests.Writing.{IsThere, there_or, allows, written_can, written_can_within, written_unlimited, written_done, written_done_within, write_refused, write_refused_within, write_refused_by_limit}
 use Rattle.pool.specs.Asked.{Asks}
 use Rattle.pool.specs.Images.{LeadsTo}
-use Rattle.images.specs.Writes.{IsPathOf, IsLeftBy, MayWrite}
+use Rattle.image.specs.Writes.{IsPathOf, IsLeftBy, MayWrite}
 use Rattle.pool.specs.Numbers.{synced_numbers}
 use Rattle.steps.specs.Settles.{AllAllocated, releases}
 use Rattle.tree.specs.Taking.{AllFree}
 use Rattle.pool.specs.Pools.{IsSound}
-use Rattle.images.specs.declared.writes.Writes.{Writes}
+use Rattle.image.specs.declared.writes.Writes.{Writes}
 use Rattle.pool.proofs.OneUpdate.{update_may, update_leads}
 
 -- no update

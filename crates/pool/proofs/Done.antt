@@ -12,12 +12,12 @@ use Rattle.model.specs.declared.reply.Reply.{Reply}
 use Rattle.model.specs.declared.reply.Reply.TheVariants.{Refused}
 use Rattle.model.specs.declared.request.Request.{Request}
 use Rattle.laws.proofs.Pools.{pools_have_lineages}
-use Rattle.host_laws.specs.Both.{AreSnapshotsOne}
-use Rattle.host_laws.proofs.Both.{one_after}
+use Rattle.laws.specs.Both.{AreSnapshotsOne}
+use Rattle.laws.proofs.Both.{one_after}
 use Rattle.removals.specs.Requests.{IsSweptBut}
 use Rattle.image.specs.Image.{ShownImage}
-use Rattle.images.specs.StepWrites.{AreStepWrites, StepWrites, writes_nothing}
-use Rattle.images.specs.Stored.{changes_maps}
+use Rattle.image.specs.StepWrites.{AreStepWrites, StepWrites, writes_nothing}
+use Rattle.image.specs.Stored.{changes_maps}
 use Rattle.pool.specs.Effects.{effected, numbers_after, reply_of, Settles, WritesBlocks, image_after, blocks_written, Images, IsPerformed}
 use Rattle.pool.specs.Images.{IsImageOf, keeps_after}
 use Rattle.pool.specs.Kinds.{kind_of}

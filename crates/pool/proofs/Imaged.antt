@@ -24,22 +24,22 @@ use Rattle.image.specs.ImageBlocks.{block_at}
 use Rattle.image.specs.PathWrites.{block_on}
 use Rattle.image.proofs.Patches.{length-bytes_put}
 use Rattle.image.proofs.PathOpen.{path_open}
-use Rattle.images.specs.Opened.{KeepsJust}
-use Rattle.images.specs.StepWrites.{AreMade, AreStepWrites, StepWrites, writes_nothing}
-use Rattle.images.specs.Stored.{IsStored, changes_maps}
-use Rattle.images.proofs.Drawing.{stored_stay}
-use Rattle.images.proofs.StepMade.{none_made, are_step_writes}
-use Rattle.images.proofs.StepMaps.{step_maps}
-use Rattle.images.proofs.Walking.{bytes_stored}
+use Rattle.image.specs.Opened.{KeepsJust}
+use Rattle.image.specs.StepWrites.{AreMade, AreStepWrites, StepWrites, writes_nothing}
+use Rattle.image.specs.Stored.{IsStored, changes_maps}
+use Rattle.image.proofs.Drawing.{stored_stay}
+use Rattle.image.proofs.StepMade.{none_made, are_step_writes}
+use Rattle.image.proofs.StepMaps.{step_maps}
+use Rattle.image.proofs.Walking.{bytes_stored}
 use Rattle.pool.specs.Effects.{effected, reply_of, MaySettle, Settles, Leads, WritesBlocks, image_after, blocks_written, keeps_of, Images}
 use Rattle.pool.specs.Images.{IsImageOf, is_synced, keeps_after}
-use Rattle.images.specs.Writes.{writes_in, MayWrite}
+use Rattle.image.specs.Writes.{writes_in, MayWrite}
 use Rattle.pool.specs.Kinds.{kind_of, other_kind}
 use Rattle.pool.specs.Pools.{world_in, IsSound}
 use Rattle.pool.specs.declared.effect.Effect.{Effect}
 use Rattle.pool.specs.declared.effect.Effect.TheVariants.{Nothing, Guids, Blocks, Taken, Synced, Abandoned, Closed}
-use Rattle.images.specs.declared.writes.Writes.{Writes}
-use Rattle.images.specs.declared.writes.Writes.TheVariants.{Idle, OnPath, Each}
+use Rattle.image.specs.declared.writes.Writes.{Writes}
+use Rattle.image.specs.declared.writes.Writes.TheVariants.{Idle, OnPath, Each}
 use Rattle.pool.specs.declared.kind.Kind.{Kind}
 use Rattle.pool.specs.declared.kind.Kind.TheVariants.{Question, View, Change, Asking}
 use Rattle.pool.specs.declared.worlds.World.{World}

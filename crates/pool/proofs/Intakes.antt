@@ -15,7 +15,7 @@ use Rattle.model.specs.State.{State}
 use Rattle.model.specs.World.{union_of}
 use Rattle.model.specs.declared.request.Request.TheVariants.{Receive}
 use Rattle.world.specs.Tables.{world_of}
-use Rattle.accounts.specs.Limits.{IsUnlimited}
+use Rattle.limits.specs.Limits.{IsUnlimited}
 use Rattle.steps.specs.Edits.{datasets_of}
 use Rattle.steps.specs.Handed.{IsAccounted, Line}
 use Rattle.steps.specs.Intakes.{IsPresent, IsIntakeOf}
@@ -35,8 +35,8 @@ use Rattle.steps.specs.Settles.{AllAllocated, releases}
 use Rattle.pool.specs.Numbers.{synced_numbers}
 use Rattle.pool.specs.Effects.{IsPerformed}
 use Rattle.pool.specs.Pools.{state_in, IsSound, IsHeld}
-use Rattle.images.specs.Writes.{ArePresent, MayWrite}
-use Rattle.images.specs.declared.writes.Writes.TheVariants.{Each}
+use Rattle.image.specs.Writes.{ArePresent, MayWrite}
+use Rattle.image.specs.declared.writes.Writes.TheVariants.{Each}
 use Rattle.pool.proofs.NewBlocks.{present as present_blocks, each_may, each_leads}
 use Rattle.pool.proofs.Commits.{few, sound_received}
 use Rattle.pool.proofs.Performed.{unlimited}

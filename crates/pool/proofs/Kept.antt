@@ -13,7 +13,7 @@ use Rattle.world.specs.Blocks.{block_order as o}
 use Rattle.world.specs.Worlds.{IsPoolState}
 use Rattle.world.proofs.lists.SetCounts.{in_union_right}
 use Rattle.world.proofs.maps.Cells.{number_in, from_number}
-use Rattle.images.specs.Opened.{KeepsJust}
+use Rattle.image.specs.Opened.{KeepsJust}
 use Rattle.steps.specs.Settles.{state_at, AreStatesOf}
 use Rattle.steps.proofs.numbers.Known.{are_known}
 use Rattle.pool.specs.Numbers.{synced_numbers}

@@ -20,7 +20,7 @@ use Rattle.model.specs.requests.Change.{limit_row}
 use Rattle.world.specs.Blocks.{block_order as o}
 use Rattle.world.specs.Tables.{Datasets, world_of}
 use Rattle.world.proofs.lists.SetCounts.{len-union}
-use Rattle.accounts.specs.Limits.{IsUnlimited}
+use Rattle.limits.specs.Limits.{IsUnlimited}
 use Rattle.datasets.specs.Limits.{with_limit_of}
 use Rattle.steps.specs.Asked.{asked_by_set}
 use Rattle.steps.specs.Counted.{IsCountOf}

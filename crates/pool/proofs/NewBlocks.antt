@@ -50,15 +50,15 @@ use Rattle.image.specs.HasBlocks.{HasBlocks, AreBirthsRising}
 use Rattle.image.specs.Image.{IsOpen}
 use Rattle.image.specs.ImageBlocks.{bytes_of, pointers_bytes, pointers_of}
 use Rattle.image.proofs.Pointers.{length-pointers_bytes}
-use Rattle.images.specs.StepWrites.{AreMade}
-use Rattle.images.specs.Stored.{AreStored, IsStored, AreMapsBeside}
-use Rattle.images.proofs.Drawing.{stored_stay}
-use Rattle.images.proofs.LiveChange.{put_beside, kept_beside, change_stored, number_open}
-use Rattle.images.proofs.MadeBlocks.{all_made, all_within, each_young}
-use Rattle.images.proofs.StepMade.{all_made as all_new}
-use Rattle.images.proofs.Stays.{changed_from, of_snap}
-use Rattle.images.proofs.Walking.{cell_reached}
-use Rattle.images.proofs.Written.{unique_in, rewrite_rises}
+use Rattle.image.specs.StepWrites.{AreMade}
+use Rattle.image.specs.Stored.{AreStored, IsStored, AreMapsBeside}
+use Rattle.image.proofs.Drawing.{stored_stay}
+use Rattle.image.proofs.LiveChange.{put_beside, kept_beside, change_stored, number_open}
+use Rattle.image.proofs.MadeBlocks.{all_made, all_within, each_young}
+use Rattle.image.proofs.StepMade.{all_made as all_new}
+use Rattle.image.proofs.Stays.{changed_from, of_snap}
+use Rattle.image.proofs.Walking.{cell_reached}
+use Rattle.image.proofs.Written.{unique_in, rewrite_rises}
 use Rattle.steps.specs.Edits.{datasets_of}
 use Rattle.steps.specs.Intakes.{IsMadeOf}
 use Rattle.steps.specs.Received.{put_freeing}
@@ -67,9 +67,9 @@ use Rattle.batch.specs.declared.draft.Draft.{Draft}
 use Rattle.tree.proofs.Told.{range_long}
 use Rattle.tree.specs.Branch.{child_key}
 use Rattle.pool.specs.Images.{LeadsTo}
-use Rattle.images.specs.Writes.{MayWrite, ArePresent}
+use Rattle.image.specs.Writes.{MayWrite, ArePresent}
 use Rattle.pool.specs.Numbers.{synced_numbers}
-use Rattle.images.specs.declared.writes.Writes.TheVariants.{Each}
+use Rattle.image.specs.declared.writes.Writes.TheVariants.{Each}
 use Rattle.pool.proofs.Kept.{kept_long, kept_just}
 
 -- ---- lists

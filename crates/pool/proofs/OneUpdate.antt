@@ -38,27 +38,27 @@ use Rattle.image.specs.Image.{IsOpen}
 use Rattle.image.specs.PathWrites.{block_on, path_writes, IsPathChange, IsPathOpen, AreSourcesApart}
 use Rattle.image.proofs.AfterChange.{same_bytes}
 use Rattle.image.proofs.PathsApart.{paths_apart}
-use Rattle.images.specs.StepWrites.{AreMade}
-use Rattle.images.specs.Stored.{IsStored, AreStored, AreMapsBeside}
-use Rattle.images.specs.Updates.{ChangesSome, IsWritten}
-use Rattle.images.proofs.LiveChange.{put_beside, change_stored, number_open}
-use Rattle.images.proofs.MadeBlocks.{path_made, path_within}
-use Rattle.images.proofs.OnePath.{path_young, path_change}
-use Rattle.images.proofs.StepMade.{none_made, path_all_made}
-use Rattle.images.proofs.Standing.{there_some, missing_none}
-use Rattle.images.proofs.Touching.{punch_idle}
-use Rattle.images.proofs.Walking.{cell_reached}
-use Rattle.images.proofs.Written.{unique_in, rewrite_rises}
+use Rattle.image.specs.StepWrites.{AreMade}
+use Rattle.image.specs.Stored.{IsStored, AreStored, AreMapsBeside}
+use Rattle.image.specs.Updates.{ChangesSome, IsWritten}
+use Rattle.image.proofs.LiveChange.{put_beside, change_stored, number_open}
+use Rattle.image.proofs.MadeBlocks.{path_made, path_within}
+use Rattle.image.proofs.OnePath.{path_young, path_change}
+use Rattle.image.proofs.StepMade.{none_made, path_all_made}
+use Rattle.image.proofs.Standing.{there_some, missing_none}
+use Rattle.image.proofs.Touching.{punch_idle}
+use Rattle.image.proofs.Walking.{cell_reached}
+use Rattle.image.proofs.Written.{unique_in, rewrite_rises}
 use Rattle.steps.specs.Edits.{datasets_of, with_datasets}
 use Rattle.steps.specs.Steady.{IsSteady}
 use Rattle.steps.proofs.numbers.Known.{states_of}
 use Rattle.steps.proofs.numbers.States.{state_at-now}
 use Rattle.pool.specs.Images.{LeadsTo}
-use Rattle.images.specs.Writes.{MayWrite, IsPathOf, IsThere, IsMissing, IsWrittenAs, IsLeftBy}
+use Rattle.image.specs.Writes.{MayWrite, IsPathOf, IsThere, IsMissing, IsWrittenAs, IsLeftBy}
 use Rattle.pool.specs.Numbers.{synced_numbers}
 use Rattle.pool.specs.Pools.{IsSound}
-use Rattle.images.specs.declared.writes.Writes.{Writes}
-use Rattle.images.specs.declared.writes.Writes.TheVariants.{Idle, OnPath, Each}
+use Rattle.image.specs.declared.writes.Writes.{Writes}
+use Rattle.image.specs.declared.writes.Writes.TheVariants.{Idle, OnPath, Each}
 use Rattle.pool.proofs.Kept.{kept_long, kept_just}
 
 module _ (s : State) (numbers : List BlockState) (sound : IsSound s numbers) (name : List ℕ) (f : FileSystem) (at : get s.now.file_systems name ≡ Some f) (u : Update) (batch : IsBatch (u ∷ []))

@@ -16,7 +16,7 @@ use Rattle.model.specs.declared.reply.Reply.TheVariants.{Done, Refused}
 use Rattle.world.specs.Sets.{Has, AreDisjoint}
 use Rattle.world.specs.Tables.{Datasets, world_of}
 use Rattle.world.proofs.changes.Kept.{union-fields}
-use Rattle.accounts.specs.Limits.{IsUnlimited}
+use Rattle.limits.specs.Limits.{IsUnlimited}
 use Rattle.removals.specs.Edits.{HasLost}
 use Rattle.removals.specs.Requests.{IsSweptBy}
 use Rattle.steps.specs.Edits.{datasets_of, with_datasets, put, lose, CanPut, CanLose, StaysUnlimited}

@@ -4,7 +4,7 @@ use Rattle.model.specs.State.{State}
 use Rattle.model.specs.declared.reply.Reply.{Reply}
 use Rattle.model.specs.declared.request.Request.{Request}
 use Rattle.image.specs.Image.{ShownImage}
-use Rattle.images.specs.StepWrites.{AreStepWrites, StepWrites, writes_nothing}
+use Rattle.image.specs.StepWrites.{AreStepWrites, StepWrites, writes_nothing}
 use Rattle.pool.specs.Plans.{state_after_plan, writes_of_plan, keeps_after_plan}
 use Rattle.pool.specs.Shown.{Shown, Leap}
 use Rattle.pool.specs.declared.pool.Plan.{Plan}

@@ -8,9 +8,9 @@ use Rattle.model.specs.World.{World}
 use Rattle.world.specs.Worlds.{IsPoolState, IsWorld}
 use Rattle.image.specs.Image.{ShownImage}
 use Rattle.image.specs.ImageBlocks.{block_at}
-use Rattle.images.specs.Roots.{RootAt, roots_in}
-use Rattle.images.specs.Stored.{AllWalk}
-use Rattle.images.proofs.Rooted.{root_walked}
+use Rattle.image.specs.Roots.{RootAt, roots_in}
+use Rattle.image.specs.Stored.{AllWalk}
+use Rattle.image.proofs.Rooted.{root_walked}
 use Rattle.pool.specs.Images.{IsImageOf, IsWalked, IsReadAs}
 
 read_as : (size : ℕ) (w : World) (i : ShownImage) (r : RootAt) → IsWorld size w → AllWalk (block_at i.bytes) size w → length i.kept ≡ size → IsIn (roots_in w.file_systems) r → IsReadAs w i r

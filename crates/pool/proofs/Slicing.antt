@@ -15,7 +15,7 @@ use Rattle.model.specs.Step.{Step}
 use Rattle.world.specs.Sets.{IsSubset}
 use Rattle.world.specs.Blocks.{block_order as o}
 use Rattle.world.proofs.lists.Lists.{in_listed}
-use Rattle.destroyer.specs.Members.{dead_blocks, dead_set}
+use Rattle.snap.specs.Members.{dead_blocks, dead_set}
 use Rattle.steps.specs.Edits.{with_freeing, CanFree}
 use Rattle.steps.specs.Settles.{AllAllocated}
 use Rattle.steps.proofs.requests.Slicing.{can_free, slice_done, free_them}

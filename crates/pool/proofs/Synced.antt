@@ -22,7 +22,7 @@ use Rattle.zalloc.specs.States.{after_group}
 use Rattle.world.specs.Sets.{Has, AreDisjoint}
 use Rattle.world.specs.Tables.{Datasets, world_of, lost_between}
 use Rattle.world.proofs.changes.Kept.{union-fields}
-use Rattle.accounts.specs.Limits.{IsUnlimited}
+use Rattle.limits.specs.Limits.{IsUnlimited}
 use Rattle.removals.specs.Edits.{HasLost}
 use Rattle.removals.specs.Needs.{has_clone}
 use Rattle.removals.specs.Requests.{swept, IsSweptBy, IsSweptBut}

@@ -7,11 +7,11 @@ use Rattle.model.specs.Step.{Step}
 use Rattle.model.specs.Sums.{IsBalanced}
 use Rattle.world.specs.RunLaws.{IsViewing}
 use Rattle.world.specs.Worlds.{IsPoolState, IsSwept}
-use Rattle.accounts.specs.Limits.{AreQuotasMet}
+use Rattle.limits.specs.Limits.{AreQuotasMet}
 use Rattle.laws.specs.Lineages.{HasBirths}
 use Rattle.laws.specs.Runs.{InBoth}
-use Rattle.host_laws.specs.Both.{AreSnapshotsOne}
-use Rattle.images.specs.StepWrites.{StepWrites}
+use Rattle.laws.specs.Both.{AreSnapshotsOne}
+use Rattle.image.specs.StepWrites.{StepWrites}
 use Rattle.pool.specs.Images.{IsImageOf, IsWalked, keeps_after}
 use Rattle.pool.specs.Reached.{IsMetered}
 use Rattle.pool.specs.Shown.{Shown}

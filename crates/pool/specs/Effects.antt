@@ -22,7 +22,7 @@ use Rattle.image.specs.BlockWrites.{images_put}
 use Rattle.image.specs.Image.{ShownImage}
 use Rattle.image.specs.ImageBlocks.{block_at}
 use Rattle.pool.specs.Images.{IsImageOf, LeadsTo}
-use Rattle.images.specs.Writes.{writes_in, MayWrite}
+use Rattle.image.specs.Writes.{writes_in, MayWrite}
 use Rattle.pool.specs.Numbers.{synced_numbers}
 use Rattle.pool.specs.Pools.{world_in, IsSound, IsKept}
 use Rattle.pool.specs.declared.worlds.World.{World}

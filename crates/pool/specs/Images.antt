@@ -16,13 +16,13 @@ use Rattle.image.specs.BlockWrites.{blocks_put}
 use Rattle.image.specs.Image.{ShownImage}
 use Rattle.image.specs.ImageBlocks.{block_at}
 use Rattle.image.specs.ImageWalk.{walk}
-use Rattle.images.specs.Opened.{KeepsJust}
-use Rattle.images.specs.Roots.{RootAt, roots_in, IsRootOf}
-use Rattle.images.specs.StepWrites.{AreMade}
-use Rattle.images.specs.Stored.{AreStored, IsStored, AllWalk}
-use Rattle.images.specs.Writes.{writes_in}
+use Rattle.image.specs.Opened.{KeepsJust}
+use Rattle.image.specs.Roots.{RootAt, roots_in, IsRootOf}
+use Rattle.image.specs.StepWrites.{AreMade}
+use Rattle.image.specs.Stored.{AreStored, IsStored, AllWalk}
+use Rattle.image.specs.Writes.{writes_in}
 use Rattle.pool.specs.Numbers.{synced_numbers}
-use Rattle.images.specs.declared.writes.Writes.{Writes}
+use Rattle.image.specs.declared.writes.Writes.{Writes}
 
 -- The image has 512 bytes for each number of the pool, and the blocks of both worlds, and keeps the states of the numbers as the last synced
 -- world gives them (On-Disk Specification, chapters 2 and 3)

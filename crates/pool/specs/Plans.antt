@@ -5,10 +5,10 @@ use Rattle.model.specs.Edits.{with_now}
 use Rattle.model.specs.State.{State}
 use Rattle.model.specs.World.{SnapId}
 use Rattle.model.specs.Ids.{snap_id}
-use Rattle.views.specs.Viewing.{is_full}
+use Rattle.snap.specs.Viewing.{is_full}
 use Rattle.steps.specs.Edits.{viewing}
 use Rattle.steps.specs.Steady.{IsSteady}
-use Rattle.host_laws.specs.Both.{AreSnapshotsOne}
+use Rattle.laws.specs.Both.{AreSnapshotsOne}
 use Rattle.pool.specs.Pools.{world_in}
 use Rattle.pool.specs.Effects.{effected, blocks_written, keeps_of, Images, Settles}
 use Rattle.pool.specs.declared.pool.Plan.{Plan}

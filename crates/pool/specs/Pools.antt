@@ -11,7 +11,7 @@ use Rattle.world.specs.Tables.{world_of}
 use Rattle.removals.specs.Requests.{IsSweptBut}
 use Rattle.steps.specs.Handed.{IsAccounted}
 use Rattle.steps.specs.Steady.{IsSteady}
-use Rattle.host_laws.specs.Both.{AreSnapshotsOne}
+use Rattle.laws.specs.Both.{AreSnapshotsOne}
 use Rattle.pool.specs.Images.{IsImageOf}
 pub use Rattle.pool.specs.Numbers.{synced_numbers}
 use Rattle.pool.specs.Shown.{Shown, shown}

@@ -14,7 +14,7 @@ use crate::keep::{Keep, Meters, Spare};
 use crate::worlds::World;
 use base::name::{DsName, Target};
 use base::refusal::Refusal;
-use images::writes_after;
+use image::writes_after;
 use std::alloc::Global;
 use std::slice::from_ref;
 use steps::{ask_change, live_name, settle};

@@ -6,7 +6,7 @@ ghost use Rattle.base.specs.declared.name.target.Target.{Target};
 ghost use Rattle.model.specs.declared.destroy_target.DestroyTarget.{DestroyTarget};
 ghost use Rattle.model.specs.World.{union_of};
 ghost use Rattle.world.specs.Tables.{Datasets, world_of};
-ghost use Rattle.accounts.specs.Limits.{IsUnlimited};
+ghost use Rattle.limits.specs.Limits.{IsUnlimited};
 ghost use Rattle.removals.specs.Families.{has_deferred_origin};
 ghost use Rattle.steps.specs.Handed.{IsAccounted};
 ghost use Rattle.steps.specs.Limiting.{CanRecount};

@@ -7,7 +7,7 @@ ghost use Rattle.pool.specs.Effects.{reply_of};
 use crate::worlds::World;
 use base::number::Dead;
 use base::refusal::Refusal;
-use images::Writes;
+use image::Writes;
 use model::reply::Reply;
 use model::snapshot_id::SnapshotId;
 use std::alloc::Global;

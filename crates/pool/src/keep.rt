@@ -12,12 +12,11 @@ use crate::effect::Effect;
 use crate::worlds::World;
 use base::meter::{Meter, SegMeter};
 use base::number::{BlockNo, Dead, Group};
-use image::Image;
-use images::{ChangedPath, Writes, write_down};
+use image::{ChangedPath, Image, Writes, write_down};
 use model::snapshot_id::SnapshotId;
 use std::alloc::{AllocError, Global};
 use tree::Draft;
-use views::Views;
+use snap::Views;
 use zalloc::Numbers;
 
 /// All that a pool keeps beside its present world.

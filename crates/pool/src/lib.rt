@@ -27,6 +27,6 @@ mod viewing;
 mod worlds;
 
 pub use image_laws::pool_image_laws;
-pub use images::DatasetRoot;
+pub use image::DatasetRoot;
 pub use pool::{Pool, Ready};
 pub use zalloc::MOST_BLOCKS;

@@ -7,7 +7,7 @@ ghost use Rattle.model.specs.State.{State};
 ghost use Rattle.model.specs.Step.{Step};
 ghost use Rattle.model.specs.World.{union_of};
 ghost use Rattle.world.specs.Tables.{world_of};
-ghost use Rattle.accounts.specs.Limits.{IsUnlimited};
+ghost use Rattle.limits.specs.Limits.{IsUnlimited};
 ghost use Rattle.steps.specs.Handed.{IsAccounted};
 ghost use Rattle.steps.specs.Limiting.{IsOver};
 ghost use Rattle.pool.specs.Pools.{state_in, shown_in, IsHeld, IsSound};

@@ -1,6 +1,6 @@
 //! The change of a world that a request asks for.
 ghost use Rattle.std.specs.Prelude.{◌≡◌, ◌≢◌, ◌≤◌, ◌⊎◌, None, IfOk, OnErr, true, false};
-ghost use Rattle.images.specs.Stored.{changes_maps};
+ghost use Rattle.image.specs.Stored.{changes_maps};
 ghost use Rattle.pool.specs.Pools.{state_in, IsHeld};
 ghost use Rattle.pool.specs.Kinds.{kind_of};
 ghost use Rattle.pool.specs.Effects.{IsPerformed, WritesBlocks};

@@ -11,11 +11,11 @@ ghost use Rattle.pool.specs.Ahead.{leaves_in};
 ghost use Rattle.pool.specs.Applied.{IsBetween, IsApplied, AreApplied};
 ghost use Rattle.pool.specs.Kinds.{kind_of};
 ghost use Rattle.pool.specs.Reached.{IsMetered};
-ghost use Rattle.images.specs.StepWrites.{writes_nothing, AreStepWrites, StepWrites};
+ghost use Rattle.image.specs.StepWrites.{writes_nothing, AreStepWrites, StepWrites};
 ghost use Rattle.pool.specs.Images.{keeps_after};
 ghost use Rattle.pool.specs.Plans.{state_after_plan, writes_of_plan, keeps_after_plan, CanDo};
 ghost use Rattle.pool.specs.Pools.{state_in, shown_in, IsHeld};
-ghost use Rattle.images.specs.Roots.{shown_root, roots_in};
+ghost use Rattle.image.specs.Roots.{shown_root, roots_in};
 ghost use Rattle.pool.specs.declared.kind.Kind.{Kind};
 
 use crate::ahead::{look, read_ahead};
@@ -26,8 +26,7 @@ use crate::worlds::World;
 use base::meter::{Meter, SegMeter};
 use base::name::DsName;
 use base::refusal::Refusal;
-use image::Image;
-use images::{DatasetRoot, roots_of};
+use image::{DatasetRoot, Image, roots_of};
 use model::reply::Reply;
 use model::request::{ObjectBlock, Request};
 use model::snapshot_id::SnapshotId;
@@ -35,7 +34,7 @@ use std::alloc::Global;
 use std::marker::Model;
 use std::snapshot::Snapshot;
 use toll::Toll;
-use views::Views;
+use snap::Views;
 use zalloc::{MOST_BLOCKS, Numbers};
 
 /// A pool of blocks with its file systems and snapshots. Contracts see its state, the state of each block number, and its image.

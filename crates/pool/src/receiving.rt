@@ -9,7 +9,7 @@ use crate::keep::{Keep, Meters, Spare};
 use crate::worlds::World;
 use base::name::SnapName;
 use base::text::Bytes;
-use images::{Writes, blocks_in};
+use image::{Writes, blocks_in};
 use model::receiving::Receiving;
 use removals::WorkingCopy;
 use std::alloc::Global;

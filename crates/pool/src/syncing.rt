@@ -10,7 +10,7 @@ use crate::worlds::{World, copy_of};
 use base::meter::SegMeter;
 use base::refusal::Refusal;
 use datasets::LAST_GROUP;
-use destroyer::Slice;
+use snap::Slice;
 use removals::WorkingCopy;
 use std::alloc::Global;
 use steps::renew;

@@ -7,7 +7,7 @@ ghost use Rattle.model.specs.Ids.{snap_id};
 ghost use Rattle.model.specs.Step.{Step};
 ghost use Rattle.model.specs.World.{union_of};
 ghost use Rattle.world.specs.Tables.{Datasets, world_of};
-ghost use Rattle.accounts.specs.Limits.{IsUnlimited};
+ghost use Rattle.limits.specs.Limits.{IsUnlimited};
 ghost use Rattle.steps.specs.Edits.{viewing};
 ghost use Rattle.steps.specs.Handed.{IsAccounted};
 ghost use Rattle.steps.specs.Limiting.{CanRecount};

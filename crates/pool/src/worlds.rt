@@ -9,7 +9,7 @@ ghost use Rattle.model.specs.World.{empty_file_system};
 
 use base::refusal::Refusal;
 use datasets::Table;
-use destroyer::Freeing;
+use snap::Freeing;
 use std::alloc::Global;
 use steps::Ledger;
 

@@ -16,12 +16,11 @@ use base::meter::SegMeter;
 use base::name::{DsName, Member, SnapName};
 use base::refusal::Refusal;
 use datasets::Table;
-use destroyer::Freeing;
+use snap::{Freeing, Views};
 use model::receiving::Receiving;
 use removals::WorkingCopy;
 use std::alloc::Global;
 use stream::Stream;
-use views::Views;
 
 /// The datasets that a receive of this stream as a snapshot of this name begins with: those that are there, and for a full stream a new file
 /// system. By the mode the file system may go back to its newest snapshot or to the stream's source, be a clone of that, or be emptied. The blocks

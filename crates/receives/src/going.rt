@@ -18,7 +18,7 @@ use base::name::DsName;
 use base::number::Guid;
 use base::refusal::Refusal;
 use datasets::{Snapshot, Table};
-use destroyer::Freeing;
+use snap::Freeing;
 use model::limits::{Limit, Limits};
 use removals::{WorkingCopy, empty_one, remove_newer_bookmarks, roll_back};
 use std::alloc::Global;

@@ -14,9 +14,8 @@ use base::meter::SegMeter;
 use base::name::DsName;
 use base::refusal::Refusal;
 use datasets::{FileSystem, Snapshot, Table};
-use destroyer::Freeing;
+use snap::{Freeing, Views};
 use std::alloc::Global;
-use views::Views;
 
 // The snapshot to be destroyed once the view of this number is closed, with its file system: the one that the view shows, where its destroy is
 // deferred and no tag, no other view and no clone needs it. It costs the number of open views, and the number of file systems times the

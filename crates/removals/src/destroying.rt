@@ -19,10 +19,9 @@ use base::meter::SegMeter;
 use base::name::DsName;
 use base::refusal::Refusal;
 use datasets::Table;
-use destroyer::Freeing;
+use snap::{Freeing, Views};
 use model::destroy_target::DestroyTarget;
 use std::alloc::Global;
-use views::Views;
 
 // Whether the file system of this name is a clone of a snapshot whose destroy is deferred. It costs the logarithm of the number of file
 // systems, and for a clone their number times the logarithm of that of the snapshots of one.

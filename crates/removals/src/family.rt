@@ -18,9 +18,8 @@ use base::meter::SegMeter;
 use base::name::DsName;
 use base::refusal::Refusal;
 use datasets::{FileSystem, Table, is_in_family};
-use destroyer::Freeing;
+use snap::{Freeing, Views};
 use std::alloc::Global;
-use views::Views;
 
 /// Removes this file system, which has no snapshot and no child and isn't the root. The blocks that no other dataset has are to be freed.
 /// NoMemory where memory is refused; at `Err` the table and what it has to free are as they were. It costs the number of file systems.

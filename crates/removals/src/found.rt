@@ -16,10 +16,9 @@ use crate::held::is_held;
 use base::name::{DsName, SnapName};
 use base::refusal::Refusal;
 use datasets::{Snapshot, Table};
-use snap::{Named, expand};
+use snap::{Named, Views, expand};
 use std::alloc::Global;
 use std::marker::Model;
-use views::Views;
 
 /// A snapshot that was found by its name, with the name of its file system: a request or a table lends both. Contracts see the pair.
 #[derive(Drop)]

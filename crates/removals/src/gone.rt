@@ -13,10 +13,9 @@ use crate::working_copy::WorkingCopy;
 use base::meter::SegMeter;
 use base::refusal::Refusal;
 use datasets::Table;
-use destroyer::Freeing;
+use snap::{Freeing, Views};
 use model::snap_names::SnapNames;
 use std::alloc::Global;
-use views::Views;
 
 /// Destroys the snapshots of these names, and with `recursive` for each name those of that name of each descendant of its file system. With
 /// `defer` a snapshot stays while a tag or one of these views keeps it or it has a clone, and is destroyed once nothing needs it. The blocks that no

@@ -10,7 +10,7 @@ use base::name::DsName;
 use base::number::Group;
 use datasets::{FileSystem, Snapshot, Table, is_in_family};
 use std::sync::Arc;
-use views::Views;
+use snap::Views;
 
 /// Whether a tag or an open view keeps this snapshot. It costs the number of open views.
 pub(crate) fn is_held(views: &Views, snapshot: &Snapshot) -> bool

@@ -26,9 +26,8 @@ use base::name::{Component, Member, Target};
 use base::number::Group;
 use base::refusal::Refusal;
 use datasets::{FileSystem, Snapshot, Table};
-use destroyer::Freeing;
+use snap::{Freeing, Views};
 use std::alloc::Global;
-use views::Views;
 
 /// Rolls a file system back to one of its snapshots: its live map is the snapshot's again, and newer snapshots and bookmarks are destroyed. The
 /// blocks that no dataset has any more are to be freed (zfs-rollback(8)). Refused are NotSnapshot where the name isn't one of a snapshot, else

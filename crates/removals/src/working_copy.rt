@@ -21,11 +21,10 @@ use base::name::DsName;
 use base::number::Group;
 use base::refusal::Refusal;
 use datasets::{FileSystem, Table};
-use destroyer::Freeing;
+use snap::{Freeing, Views};
 use model::snapshot_id::SnapshotId;
 use std::alloc::Global;
 use std::sync::Arc;
-use views::Views;
 
 /// A copy of a table and of what is to be freed. Datasets are removed from the copy before it replaces both.
 #[derive(Drop)]

@@ -9,3 +9,9 @@ pub mod Yielded
 pub mod Cloned
 pub mod Promoted
 pub mod Renamed
+pub mod Numbered
+pub mod Rows
+pub mod Kept
+pub mod Peeling
+pub mod Pieces
+pub mod Together

@@ -1,7 +1,12 @@
-//! The snapshots of one request.
+//! The snapshots of one request, the open views of a pool, and the blocks that a destroy leaves to be freed.
 //!
 //! A request names snapshots. With -r each name stands for a snapshot of every descendant of its file system too. All are taken together in the
 //! open group, which is then closed (zfs-snapshot(8)).
+//!
+//! A view shows a snapshot by a number for as long as it is open ([`Views`]).
+//!
+//! The blocks that a destroy releases are added to a list as whole pieces, trees and dead lists ([`Freeing`]). Later slices free them, a few
+//! blocks at a time (zpool-features(7): async_destroy; zpoolprops(7): freeing).
 #![tactic(auto)]
 
 ghost use Rattle.std.specs.Prelude.{◌≡◌, ◌↔◌, ◌⊎◌, Some, None, IfSome, IfOk, IfErr, OnOk, OnErr, length};
@@ -11,11 +16,18 @@ ghost use Rattle.snap.specs.Taking.{all_of, refusal_of, after_taking};
 
 mod check;
 pub mod clones;
+mod freeing;
 mod lengths;
+mod list;
 mod named;
+mod piece;
+mod row;
 mod take;
+mod tops;
 
 use crate::check::{any_missing, check};
+pub use crate::freeing::{Freeing, Slice};
+pub use crate::list::{VIEW_LIMIT, Views};
 pub use crate::named::{Named, expand};
 use crate::take::{take_all, take_one};
 use base::name::SnapName;

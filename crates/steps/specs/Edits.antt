@@ -10,7 +10,7 @@ use Rattle.model.specs.Edits.{with_now, with_losses}
 use Rattle.model.specs.Targets.{has_no_next_group}
 use Rattle.world.specs.Plans.{IsSettling}
 use Rattle.world.specs.Tables.{Datasets}
-use Rattle.accounts.specs.Limits.{IsUnlimited}
+use Rattle.limits.specs.Limits.{IsUnlimited}
 use Rattle.steps.specs.Steady.{IsSteady}
 
 -- the datasets of a state's present world (profile)

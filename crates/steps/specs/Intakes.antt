@@ -24,7 +24,7 @@ use Rattle.world.specs.Tables.{Datasets, world_of}
 use Rattle.world.specs.Takings.{AreTakable}
 use Rattle.world.specs.Worlds.{IsPoolState}
 use Rattle.zalloc.specs.declared.BlockState.{BlockState}
-use Rattle.accounts.specs.Limits.{IsUnlimited}
+use Rattle.limits.specs.Limits.{IsUnlimited}
 use Rattle.limits.specs.Changes.{IsRecounted}
 use Rattle.removals.specs.declared.working_copy.WorkingCopy.{WorkingCopy}
 use Rattle.removals.specs.Edits.{HasLost}

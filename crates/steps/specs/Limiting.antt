@@ -11,7 +11,7 @@ use Rattle.model.specs.Rule.{first_of}
 use Rattle.model.specs.Sums.{IsBalanced}
 use Rattle.model.specs.requests.Change.{limit_row}
 use Rattle.world.specs.Tables.{Datasets, world_of}
-use Rattle.accounts.specs.Limits.{IsUnlimited}
+use Rattle.limits.specs.Limits.{IsUnlimited}
 use Rattle.steps.specs.Asked.{asked_by_change}
 use Rattle.steps.specs.Edits.{datasets_of}
 use Rattle.steps.specs.Steady.{IsSteady}

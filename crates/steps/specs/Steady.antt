@@ -12,7 +12,7 @@ use Rattle.model.specs.Targets.{dataset_of, has_dataset}
 pub use Rattle.model.specs.Hierarchy.{snap_in}
 use Rattle.model.specs.Hierarchy.{FileSystems}
 use Rattle.world.specs.Worlds.{IsPoolState, IsSwept}
-use Rattle.accounts.specs.Limits.{HasLimits}
+use Rattle.limits.specs.Limits.{HasLimits}
 
 -- The facts of its worlds and views, with nothing to sweep, and with every quota and refquota met (zfsprops(7): quota, refquota; the rest
 -- is profile)

@@ -28,8 +28,8 @@ use zalloc::Counts;
 /// more: `origin` the number of file systems times the logarithm of that of the snapshots of one; `clones` their names; `used` and
 /// `usedbychildren` of a file system the number of file systems; and `used` of a snapshot what `lookups::space::used_by_snapshot` does. What was
 /// written since a snapshot costs what `lookups::space::written_since` does, and what a range of snapshots would free what
-/// `lookups::space::would_free` does; these two visit no block and take no memory. A send costs what `sends::sources::start_of` and
-/// `sends::stream_bytes` do.
+/// `lookups::space::would_free` does; these two visit no block and take no memory. A send costs what `lookups::sources::start_of` and
+/// `lookups::stream_bytes` do.
 pub fn answer(
     alloc: Global,
     ledger: &Option<Ledger>,

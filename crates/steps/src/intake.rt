@@ -14,14 +14,13 @@ use base::name::SnapName;
 use base::number::Group;
 use base::refusal::Refusal;
 use datasets::Table;
-use destroyer::Freeing;
+use snap::{Freeing, Views};
 use model::receiving::Receiving;
 use receives::{begin, finish, updates_of};
 use removals::WorkingCopy;
 use std::alloc::Global;
 use stream::{Stream, StreamFault, read_stream};
 use tree::Draft;
-use views::Views;
 use zalloc::Allocator;
 
 /// The parts of a pool that a receive reads.

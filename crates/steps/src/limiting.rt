@@ -7,7 +7,7 @@ ghost use Rattle.model.specs.State.{State, waiting_of};
 ghost use Rattle.model.specs.World.{union_of};
 ghost use Rattle.model.specs.requests.Change.{limit_row};
 ghost use Rattle.world.specs.Tables.{Datasets, world_of};
-ghost use Rattle.accounts.specs.Limits.{IsUnlimited};
+ghost use Rattle.limits.specs.Limits.{IsUnlimited};
 ghost use Rattle.limits.specs.Ledgers.{IsSpaceOf, ledger_of};
 ghost use Rattle.lookups.specs.Accounted.{IsAccounted};
 ghost use Rattle.steps.specs.Limiting.{IsOver, CanSettle, CanRecount};
@@ -15,8 +15,7 @@ ghost use Rattle.steps.specs.Limiting.{IsOver, CanSettle, CanRecount};
 use base::name::DsName;
 use base::refusal::Refusal;
 use datasets::Table;
-use limits::outlook::Outlook;
-use limits::{Ledger, Space};
+use limits::{Ledger, Space, outlook::Outlook};
 
 // Makes this the ledger of these datasets, and gives the first limit that is broken, if any, in a pool that has them and `space` beside them. It
 // costs the number of file systems times its logarithm.

@@ -12,12 +12,11 @@ use base::name::Target;
 use base::refusal::Refusal;
 use datasets::Table;
 use model::reply::Reply;
-use sends::sources::start_of;
-use sends::stream_bytes;
+use lookups::{sources::start_of, stream_bytes};
 use std::alloc::Global;
 
 // Replies with the stream of a send of the snapshot of this name from this source, or of a full send where there is none; or with the refusal.
-// It costs what `sends::sources::start_of` and `sends::stream_bytes` do.
+// It costs what `lookups::sources::start_of` and `lookups::stream_bytes` do.
 pub(crate) fn send(
     alloc: Global,
     table: &Table,

@@ -56,4 +56,4 @@ pub use session::{
     Session, Turns, View,
 };
 pub use stream::{Record, Stream, StreamFault, read_stream, write_stream};
-pub use views::VIEW_LIMIT;
+pub use snap::VIEW_LIMIT;

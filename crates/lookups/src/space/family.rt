@@ -7,7 +7,7 @@ ghost use Rattle.model.specs.World.{union_of};
 ghost use Rattle.model.specs.Sums.{used_of, used_by_children};
 ghost use Rattle.world.specs.Tables.{world_of};
 ghost use Rattle.world.specs.Trees.{total};
-ghost use Rattle.accounts.specs.Limits.{IsUnlimited};
+ghost use Rattle.limits.specs.Limits.{IsUnlimited};
 ghost use Rattle.lookups.specs.Used.{own_in, own_within};
 
 use base::name::DsName;

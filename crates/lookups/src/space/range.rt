@@ -9,7 +9,7 @@ ghost use Rattle.model.specs.Sums.{would_free};
 ghost use Rattle.world.specs.Tables.{world_of};
 ghost use Rattle.world.specs.Worlds.{AreRising};
 ghost use Rattle.datasets.specs.Origins.{origin_group};
-ghost use Rattle.accounts.specs.Space.{newest_group};
+ghost use Rattle.limits.specs.Space.{newest_group};
 ghost use Rattle.lookups.specs.Ranges.{IsRange, range_ids, range_reach, range_refusal, has_clone_between, group_after, older_than};
 
 use base::meter::SegMeter;

@@ -21,9 +21,9 @@ use Rattle.model.specs.Sums.{free_of, room_of}
 use Rattle.model.specs.World.{FileSystem, union_of}
 use Rattle.world.specs.Tables.{Datasets, world_of}
 use Rattle.world.proofs.changes.Kept.{union-fields}
-use Rattle.accounts.specs.Limits.{IsUnlimited, AreQuotasMet}
-use Rattle.accounts.proofs.AskedChanges.{change_frees_none}
-use Rattle.accounts.proofs.Rooms.{room_free}
+use Rattle.limits.specs.Limits.{IsUnlimited, AreQuotasMet}
+use Rattle.limits.proofs.AskedChanges.{change_frees_none}
+use Rattle.limits.proofs.UnlimitedRooms.{room_free}
 use Rattle.datasets.specs.Rows.{Row}
 use Rattle.datasets.specs.Clones.{row_in}
 use Rattle.datasets.specs.Limits.{with_limit_of}

@@ -31,9 +31,9 @@ use Rattle.world.proofs.changes.Kept.{reach_is}
 use Rattle.world.proofs.lists.Maps.{same_value, key_cases}
 use Rattle.world.proofs.lineage.Put.{put_here}
 use Rattle.world.proofs.lists.SetCounts.{in_union_left, len-subset}
-use Rattle.accounts.proofs.AskedChanges.{after_is, change_frees_none}
-use Rattle.accounts.proofs.AskedSteps.{asked_systems}
-use Rattle.accounts.proofs.Taken.{taken_is, taken_systems, taken_there, taken_others, taken_others_here, taken_referenced, taken_freeing}
+use Rattle.limits.proofs.AskedChanges.{after_is, change_frees_none}
+use Rattle.limits.proofs.AskedSteps.{asked_systems}
+use Rattle.limits.proofs.Taken.{taken_is, taken_systems, taken_there, taken_others, taken_others_here, taken_referenced, taken_freeing}
 use Rattle.limits.specs.Changes.{IsChanged}
 use Rattle.steps.specs.Steady.{IsSteady}
 use Rattle.steps.specs.Edits.{datasets_of}

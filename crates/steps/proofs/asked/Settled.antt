@@ -21,9 +21,9 @@ use Rattle.world.specs.Shapes.{Name, name_order}
 use Rattle.world.specs.Tables.{Datasets, world_of}
 use Rattle.world.specs.Worlds.{IsPoolState}
 use Rattle.world.proofs.lists.Maps.{same_value, key_cases}
-use Rattle.accounts.specs.Levels.{IsSameHere}
-use Rattle.accounts.proofs.AskedChanges.{after_is, live_there, others}
-use Rattle.accounts.proofs.AskedSteps.{change_same_here, change_same_size}
+use Rattle.limits.specs.Levels.{IsSameHere}
+use Rattle.limits.proofs.AskedChanges.{after_is, live_there, others}
+use Rattle.limits.proofs.AskedSteps.{change_same_here, change_same_size}
 use Rattle.datasets.specs.Writes.{young_of, HasWritten}
 use Rattle.steps.specs.Asked.{asked_by_change}
 use Rattle.steps.specs.Edits.{datasets_of, with_datasets}

@@ -28,7 +28,7 @@ use Rattle.world.proofs.lists.Finding.{in_filter}
 use Rattle.world.proofs.lists.Listed.{map_in}
 use Rattle.world.proofs.lists.Maps.{no_value, same_value, key_cases}
 use Rattle.world.proofs.views.ViewedReceives.{no_full, no_incremental, new_absent, origin_absent, replaced_alone, past_alone, from_source, snap_within}
-use Rattle.accounts.proofs.Older.{origin_there}
+use Rattle.limits.proofs.Older.{origin_there}
 use Rattle.limits.proofs.Recounted.{IsAlike, AreAlikeBut, alike_itself}
 use Rattle.steps.specs.Steady.{IsSteady}
 use Rattle.steps.proofs.requests.Beginning.{none_cloned}

@@ -16,7 +16,7 @@ use Rattle.world.specs.Tables.{Datasets, world_of, tagged_snap}
 use Rattle.world.specs.Worlds.{AreFileSystems}
 use Rattle.world.proofs.changes.Views.{same_maps_mapped}
 use Rattle.world.proofs.removals.Sweep.{get-with_file_systems}
-use Rattle.accounts.proofs.Steps.{shrunk_snaps, kept_changed, kept_marks, kept_shrunk}
+use Rattle.limits.proofs.Steps.{shrunk_snaps, kept_changed, kept_marks, kept_shrunk}
 use Rattle.limits.specs.declared.line.Line.{Line}
 use Rattle.limits.proofs.Recounted.{IsAlike, AreAlikeBut, alike_from}
 use Rattle.lookups.specs.Accounted.{IsAccounted}

@@ -26,8 +26,8 @@ use Rattle.world.proofs.lists.Finding.{filter_all, same_id_is}
 use Rattle.world.proofs.lists.Maps.{no_value, same_value, key_cases, get-remove_same, get-remove_other}
 use Rattle.world.proofs.removals.Sweep.{get-with_file_systems}
 use Rattle.world.proofs.removals.WithoutSnaps.{without_at, from_without}
-use Rattle.accounts.specs.Limits.{AreShrunk}
-use Rattle.accounts.proofs.Steps.{shrunk_snaps, kept_trans, kept_without, kept_deferred, kept_shrunk}
+use Rattle.limits.specs.Limits.{AreShrunk}
+use Rattle.limits.proofs.Steps.{shrunk_snaps, kept_trans, kept_without, kept_deferred, kept_shrunk}
 use Rattle.limits.specs.declared.line.Line.{Line}
 use Rattle.limits.proofs.Recounted.{IsAlike, AreAlikeBut, alike_itself, alike_less, alike_from, kept_origins}
 use Rattle.lookups.specs.Accounted.{IsAccounted}

@@ -15,8 +15,8 @@ use Rattle.world.specs.Worlds.{AreFileSystems}
 use Rattle.world.proofs.lineage.Put.{put_other}
 use Rattle.world.proofs.lists.Maps.{same_value}
 use Rattle.world.proofs.views.ViewedRequests.{row_false}
-use Rattle.accounts.specs.Limits.{IsMade}
-use Rattle.accounts.proofs.Steps.{shrunk_made}
+use Rattle.limits.specs.Limits.{IsMade}
+use Rattle.limits.proofs.Steps.{shrunk_made}
 use Rattle.datasets.specs.Clones.{with_clone_of}
 use Rattle.limits.specs.declared.line.Line.{Line}
 use Rattle.limits.proofs.Recounted.{IsAlike, AreAlikeBut, alike_itself, kept_origins}

@@ -11,8 +11,8 @@ use Rattle.model.specs.Numbers.{HasStates}
 use Rattle.model.specs.Rule.{Row, first_of}
 use Rattle.model.specs.requests.Change.{limit_row}
 use Rattle.world.specs.Worlds.{IsPoolState, IsSwept}
-use Rattle.accounts.specs.Limits.{IsUnlimited, HasLimits}
-use Rattle.accounts.proofs.Unlimited.{quotas_unlimited, refquotas_unlimited, pool_unlimited}
+use Rattle.limits.specs.Limits.{IsUnlimited, HasLimits}
+use Rattle.limits.proofs.Unlimited.{quotas_unlimited, refquotas_unlimited, pool_unlimited}
 use Rattle.steps.specs.Settles.{AreStatesOf}
 use Rattle.steps.specs.Steady.{IsSteady}
 use Rattle.steps.proofs.numbers.Counts.{count-free}

@@ -21,9 +21,9 @@ use Rattle.world.specs.Shapes.{name_order}
 use Rattle.world.specs.Tables.{world_of}
 use Rattle.world.specs.Worlds.{IsPoolState}
 use Rattle.world.proofs.lists.Maps.{same_value, no_value, key_cases}
-use Rattle.accounts.specs.Limits.{IsWithin, AreQuotasMet}
-use Rattle.accounts.proofs.AskedChanges.{after_is}
-use Rattle.accounts.proofs.Forecasts.{asked_systems, asked_there, asked_others, asked_others_here, asked_others_referenced}
+use Rattle.limits.specs.Limits.{IsWithin, AreQuotasMet}
+use Rattle.limits.proofs.AskedChanges.{after_is}
+use Rattle.limits.proofs.Forecasts.{asked_systems, asked_there, asked_others, asked_others_here, asked_others_referenced}
 use Rattle.steps.specs.Asked.{asked_by_change}
 use Rattle.steps.specs.Edits.{datasets_of}
 use Rattle.limits.specs.Changes.{IsChanged}

@@ -6,11 +6,11 @@ use Rattle.model.specs.Sums.{used_of, referenced_of}
 use Rattle.model.specs.Rule.{first_of}
 use Rattle.model.specs.requests.Change.{limit_row}
 use Rattle.world.specs.Worlds.{IsPoolState}
-use Rattle.accounts.specs.Limits.{IsUnlimited, IsWithin, IsKeptOrNone, IsShrunk, AreShrunk, AreQuotasMet, HasLimits}
-use Rattle.accounts.specs.Steps.{AreKept}
-use Rattle.accounts.proofs.Limits.{limits_met}
-use Rattle.accounts.proofs.Rows.{limits_asked}
-use Rattle.accounts.proofs.Steps.{step_keeps, kept_same, kept_shrunk}
+use Rattle.limits.specs.Limits.{IsUnlimited, IsWithin, IsKeptOrNone, IsShrunk, AreShrunk, AreQuotasMet, HasLimits}
+use Rattle.limits.specs.Steps.{AreKept}
+use Rattle.limits.proofs.Limits.{limits_met}
+use Rattle.limits.proofs.AskedRows.{limits_asked}
+use Rattle.limits.proofs.Steps.{step_keeps, kept_same, kept_shrunk}
 use Rattle.steps.specs.Steady.{IsSteady}
 
 -- ---- requests that make no file system use more

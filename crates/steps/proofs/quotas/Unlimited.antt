@@ -17,7 +17,7 @@ use Rattle.world.proofs.lineage.Bridge.{map_of_live}
 use Rattle.world.proofs.lineage.Put.{put_cases}
 use Rattle.world.proofs.steps.StateSteps.{swept_stays}
 use Rattle.world.proofs.removals.WithoutSnaps.{from_without}
-use Rattle.accounts.specs.Limits.{IsUnlimited}
+use Rattle.limits.specs.Limits.{IsUnlimited}
 use Rattle.steps.specs.Room.{AreKeysOne}
 use Rattle.steps.specs.Steady.{IsSteady, IsAbsent, HasNoDataset}
 

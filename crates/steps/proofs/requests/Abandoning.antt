@@ -17,7 +17,7 @@ use Rattle.world.specs.Worlds.{IsPoolState}
 use Rattle.world.proofs.steps.Groups.{back_pairs}
 use Rattle.world.proofs.views.ViewedRequests.{none_viewed}
 use Rattle.world.proofs.views.ViewedSteps.{viewed}
-use Rattle.accounts.specs.Limits.{HasLimits, IsUnlimited}
+use Rattle.limits.specs.Limits.{HasLimits, IsUnlimited}
 use Rattle.removals.specs.Requests.{swept}
 use Rattle.steps.specs.Steady.{IsSteady}
 use Rattle.steps.specs.Edits.{datasets_of, lose, CanLose}

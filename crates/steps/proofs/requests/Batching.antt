@@ -43,11 +43,11 @@ use Rattle.world.proofs.changes.Kept.{reach_is}
 use Rattle.world.proofs.changes.Plans.{plan_settles}
 use Rattle.world.proofs.lineage.Put.{put_here}
 use Rattle.world.proofs.steps.StateSteps.{change_before, swept_stays}
-use Rattle.accounts.specs.Limits.{IsUnlimited}
-use Rattle.accounts.proofs.AskedChanges.{after_is}
-use Rattle.accounts.proofs.AskedNumbers.{once_of_pair}
-use Rattle.accounts.proofs.Enough.{room_is_enough}
-use Rattle.accounts.proofs.Unlimited.{pool_unlimited}
+use Rattle.limits.specs.Limits.{IsUnlimited}
+use Rattle.limits.proofs.AskedChanges.{after_is}
+use Rattle.limits.proofs.AskedNumbers.{once_of_pair}
+use Rattle.limits.proofs.Enough.{room_is_enough}
+use Rattle.limits.proofs.Unlimited.{pool_unlimited}
 use Rattle.steps.specs.Settles.{state_at}
 use Rattle.steps.specs.Edits.{datasets_of, with_datasets}
 use Rattle.steps.proofs.numbers.States.{not_free, state_at-now}

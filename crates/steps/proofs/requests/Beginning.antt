@@ -45,7 +45,7 @@ use Rattle.receives.proofs.Refusals.{can_make, can_clone}
 use Rattle.removals.specs.Edits.{HasLost}
 use Rattle.removals.specs.Needs.{has_clone}
 use Rattle.removals.proofs.Clones.{uncloned_is, outside_is}
-use Rattle.accounts.specs.Limits.{IsUnlimited}
+use Rattle.limits.specs.Limits.{IsUnlimited}
 use Rattle.steps.specs.Steady.{IsSteady}
 use Rattle.steps.specs.Edits.{datasets_of, lose}
 use Rattle.steps.proofs.requests.Creating.{CanAdd, can_add, create_can}

@@ -31,8 +31,8 @@ use Rattle.snap.specs.Requests.{cloned, clone_refusal}
 use Rattle.steps.specs.Steady.{IsSteady}
 use Rattle.steps.specs.Edits.{datasets_of, with_datasets, put, StaysUnlimited, CanPut}
 use Rattle.steps.proofs.requests.Creating.{CanAdd, can_add}
-use Rattle.accounts.specs.Limits.{IsUnlimited}
-use Rattle.accounts.proofs.Steps.{shrunk_cloned}
+use Rattle.limits.specs.Limits.{IsUnlimited}
+use Rattle.limits.proofs.Steps.{shrunk_cloned}
 use Rattle.steps.proofs.quotas.Limits.{kept_limits}
 use Rattle.steps.proofs.quotas.Unlimited.{unlimited_put, still_swept, same_known, put_known, new_origins}
 use Rattle.steps.proofs.numbers.Putting.{put_none}

@@ -20,7 +20,7 @@ use Rattle.world.proofs.changes.Kept.{reach_is}
 use Rattle.world.proofs.steps.StateSteps.{begun, create_before}
 use Rattle.steps.specs.Steady.{IsSteady}
 use Rattle.steps.specs.Edits.{datasets_of, with_datasets, put, StaysUnlimited, CanPut}
-use Rattle.accounts.proofs.Steps.{shrunk_created}
+use Rattle.limits.proofs.Steps.{shrunk_created}
 use Rattle.steps.proofs.quotas.Limits.{kept_limits}
 use Rattle.steps.proofs.quotas.Unlimited.{unlimited_put, still_swept, same_known, put_known, new_origins}
 use Rattle.steps.proofs.numbers.Putting.{put_none}

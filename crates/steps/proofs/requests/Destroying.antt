@@ -30,8 +30,8 @@ use Rattle.world.proofs.steps.StateSteps.{sweep_swept}
 use Rattle.world.proofs.views.Viewed.{IsSafe, safe_then, some_gone}
 use Rattle.world.proofs.views.ViewedRequests.{not_true, destroy_asked}
 use Rattle.world.proofs.removals.WithoutSnaps.{without_from, losses_twice}
-use Rattle.accounts.specs.Steps.{AreKept}
-use Rattle.accounts.proofs.Steps.{shrunk_snaps, kept_trans, kept_shrunk, kept_same, kept_put, kept_without, kept_deferred, kept_names}
+use Rattle.limits.specs.Steps.{AreKept}
+use Rattle.limits.proofs.Steps.{shrunk_snaps, kept_trans, kept_shrunk, kept_same, kept_put, kept_without, kept_deferred, kept_names}
 use Rattle.removals.specs.Requests.{destroyed, destroy_refusal, swept}
 use Rattle.steps.specs.Steady.{IsSteady}
 use Rattle.steps.specs.Edits.{datasets_of, lose, StaysUnlimited, CanLose}

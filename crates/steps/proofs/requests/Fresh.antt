@@ -23,7 +23,7 @@ use Rattle.world.proofs.lists.Maps.{no_value}
 use Rattle.world.proofs.lists.SetCounts.{from_difference}
 use Rattle.world.proofs.maps.Cells.{from_number}
 use Rattle.world.proofs.removals.Slices.{fresh_keeps, none_reached}
-use Rattle.accounts.specs.Limits.{IsUnlimited}
+use Rattle.limits.specs.Limits.{IsUnlimited}
 use Rattle.steps.specs.Settles.{state_at, AreStatesOf}
 use Rattle.steps.specs.Steady.{IsSteady}
 use Rattle.steps.proofs.numbers.Known.{of_states}

@@ -25,9 +25,9 @@ use Rattle.world.proofs.steps.StateSteps.{now_keeps}
 use Rattle.world.proofs.removals.Sweep.{get-with_file_systems, with_losses-same}
 use Rattle.world.proofs.views.Viewed.{kept_of}
 use Rattle.world.proofs.changes.Views.{snaps_in_put, label_from, label_world, label_pairs, same_shapes_mapped, same_maps_mapped}
-use Rattle.accounts.specs.Limits.{IsShrunk}
-use Rattle.accounts.specs.Steps.{AreKept}
-use Rattle.accounts.proofs.Steps.{shrunk_snaps, kept_same, kept_put, kept_shrunk}
+use Rattle.limits.specs.Limits.{IsShrunk}
+use Rattle.limits.specs.Steps.{AreKept}
+use Rattle.limits.proofs.Steps.{shrunk_snaps, kept_same, kept_put, kept_shrunk}
 use Rattle.steps.specs.Steady.{IsSteady}
 use Rattle.steps.specs.Edits.{datasets_of, with_datasets, lose, StaysUnlimited, CanPut}
 use Rattle.steps.proofs.numbers.Putting.{put_none}

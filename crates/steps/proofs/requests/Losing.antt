@@ -10,7 +10,7 @@ use Rattle.model.specs.Numbers.{HasStates}
 use Rattle.world.specs.Worlds.{AreFileSystems, AreMapsFrom, IsPoolState, IsSwept}
 use Rattle.world.specs.Tables.{Datasets}
 use Rattle.world.proofs.changes.Kept.{world_losses, pair_losses, losses_reach}
-use Rattle.accounts.specs.Limits.{HasLimits}
+use Rattle.limits.specs.Limits.{HasLimits}
 use Rattle.steps.specs.Settles.{AreStatesOf}
 use Rattle.steps.specs.Steady.{IsSteady}
 use Rattle.steps.specs.Edits.{lose, CanLose}

@@ -22,7 +22,7 @@ use Rattle.world.proofs.lists.Listed.{in_map}
 use Rattle.world.proofs.steps.States.{in_clones, some_in, from_clones, positive}
 use Rattle.world.proofs.steps.StateSteps.{rename_snapshots_before}
 use Rattle.world.proofs.views.ViewedSnapNames.{CanRenameSnaps, can_rename_snaps}
-use Rattle.accounts.proofs.Steps.{kept_all, shrunk_snaps}
+use Rattle.limits.proofs.Steps.{kept_all, shrunk_snaps}
 use Rattle.steps.specs.Steady.{IsSteady}
 use Rattle.steps.specs.Edits.{datasets_of, put, CanPut}
 use Rattle.marks.specs.Naming.{snap_naming_refusal, snaps_renamed_in}

@@ -44,10 +44,10 @@ use Rattle.world.proofs.changes.Kept.{reach_is}
 use Rattle.world.proofs.changes.Plans.{plan_settles}
 use Rattle.world.proofs.steps.StateSteps.{change_is, change_before, swept_idle}
 use Rattle.world.proofs.changes.TableWrites.{live_systems}
-use Rattle.accounts.specs.Limits.{IsUnlimited, HasLimits}
-use Rattle.accounts.proofs.AskedSteps.{change_limits_after}
-use Rattle.accounts.proofs.Enough.{room_is_enough}
-use Rattle.accounts.proofs.Unlimited.{quotas_unlimited, refquotas_unlimited, pool_unlimited}
+use Rattle.limits.specs.Limits.{IsUnlimited, HasLimits}
+use Rattle.limits.proofs.AskedSteps.{change_limits_after}
+use Rattle.limits.proofs.Enough.{room_is_enough}
+use Rattle.limits.proofs.Unlimited.{quotas_unlimited, refquotas_unlimited, pool_unlimited}
 use Rattle.steps.specs.Settles.{state_at}
 use Rattle.steps.specs.Steady.{IsSteady}
 use Rattle.steps.specs.Asked.{asked_by_change}

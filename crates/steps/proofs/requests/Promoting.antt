@@ -30,7 +30,7 @@ use Rattle.world.proofs.changes.Promotions.{IsPromotion, promotion_is, promote_u
 use Rattle.world.proofs.lineage.Put.{put_here, put_other}
 use Rattle.world.proofs.steps.StateSteps.{promote_before}
 use Rattle.world.proofs.views.ViewedRequests.{row_false}
-use Rattle.accounts.specs.Limits.{IsUnlimited}
+use Rattle.limits.specs.Limits.{IsUnlimited}
 use Rattle.datasets.specs.Clones.{with_promoted}
 use Rattle.snap.specs.Requests.{promoted as promoted_datasets, promote_refusal}
 use Rattle.steps.specs.Steady.{IsSteady}

@@ -49,14 +49,14 @@ use Rattle.world.proofs.lists.Finding.{in_left, in_either}
 use Rattle.world.proofs.lists.Maps.{same_value}
 use Rattle.world.proofs.lineage.Put.{put_here}
 use Rattle.world.proofs.steps.StateSteps.{snapshots_before, swept_stays}
-use Rattle.accounts.specs.Limits.{IsUnlimited, AreQuotasMet}
-use Rattle.accounts.proofs.AskedChanges.{after_is}
-use Rattle.accounts.proofs.AskedSteps.{asked_systems, asked_alike}
-use Rattle.accounts.proofs.Limits.{limits_met}
-use Rattle.accounts.proofs.Rows.{limits_asked}
-use Rattle.accounts.proofs.Taken.{taken_is, taken_systems, taken_union, taken_freeing, taken_reach}
-use Rattle.accounts.proofs.TakenAlike.{taken_holds}
-use Rattle.accounts.proofs.Unlimited.{quotas_unlimited, refquotas_unlimited}
+use Rattle.limits.specs.Limits.{IsUnlimited, AreQuotasMet}
+use Rattle.limits.proofs.AskedChanges.{after_is}
+use Rattle.limits.proofs.AskedSteps.{asked_systems, asked_alike}
+use Rattle.limits.proofs.Limits.{limits_met}
+use Rattle.limits.proofs.AskedRows.{limits_asked}
+use Rattle.limits.proofs.Taken.{taken_is, taken_systems, taken_union, taken_freeing, taken_reach}
+use Rattle.limits.proofs.TakenAlike.{taken_holds}
+use Rattle.limits.proofs.Unlimited.{quotas_unlimited, refquotas_unlimited}
 use Rattle.steps.specs.Settles.{AreStatesOf, releases, AllAllocated, AreTakable as AreTakableNumbers}
 use Rattle.steps.specs.Steady.{IsSteady}
 use Rattle.steps.specs.Edits.{datasets_of, with_datasets}

@@ -19,7 +19,7 @@ use Rattle.world.proofs.changes.Renames.{CanRename, renamed_at, renamed_back, re
 use Rattle.world.proofs.lists.Names.{exchanged}
 use Rattle.world.proofs.steps.StateSteps.{rename_before}
 use Rattle.world.proofs.views.ViewedRenames.{can_rename}
-use Rattle.accounts.specs.Limits.{IsUnlimited}
+use Rattle.limits.specs.Limits.{IsUnlimited}
 use Rattle.datasets.specs.Renames.{with_names, rename_refusal}
 use Rattle.steps.specs.Steady.{IsSteady}
 use Rattle.steps.specs.Asked.{asked_by_rename}

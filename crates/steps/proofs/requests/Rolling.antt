@@ -32,7 +32,7 @@ use Rattle.world.proofs.removals.Rollbacks.{rollback_systems, rollback_from}
 use Rattle.steps.specs.Steady.{IsSteady}
 use Rattle.steps.specs.Asked.{asked_by_rollback}
 use Rattle.steps.specs.Edits.{datasets_of, lose, StaysUnlimited, CanLose}
-use Rattle.accounts.specs.Limits.{IsUnlimited}
+use Rattle.limits.specs.Limits.{IsUnlimited}
 use Rattle.removals.specs.Needs.{has_clone}
 use Rattle.removals.specs.Requests.{rolled, rollback_refusal}
 use Rattle.steps.proofs.quotas.Bounded.{first_left, first_after, IsUnasked, asked_steady, unasked_fits}

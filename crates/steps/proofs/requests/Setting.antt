@@ -22,9 +22,9 @@ use Rattle.model.specs.Step.{Step}
 use Rattle.world.specs.Tables.{world_of}
 use Rattle.world.specs.Worlds.{IsTidy, IsPoolState}
 use Rattle.world.proofs.changes.Kept.{reach_is}
-use Rattle.accounts.specs.Limits.{IsShrunk, HasLimits}
-use Rattle.accounts.specs.Steps.{AreKept}
-use Rattle.accounts.proofs.Steps.{kept_changed, kept_shrunk}
+use Rattle.limits.specs.Limits.{IsShrunk, HasLimits}
+use Rattle.limits.specs.Steps.{AreKept}
+use Rattle.limits.proofs.Steps.{kept_changed, kept_shrunk}
 use Rattle.datasets.specs.Limits.{with_limit_of}
 use Rattle.steps.specs.Steady.{IsSteady}
 use Rattle.steps.specs.Edits.{datasets_of, with_datasets, put, CanPut}

@@ -29,7 +29,7 @@ use Rattle.world.proofs.steps.SnapshotLists.{snapshots_union}
 use Rattle.world.proofs.steps.StateSteps.{snapshots_before}
 use Rattle.world.proofs.steps.Takings.{takable, snapshots_leave}
 use Rattle.datasets.specs.Snapshots.{taken_of}
-use Rattle.accounts.specs.Limits.{IsUnlimited}
+use Rattle.limits.specs.Limits.{IsUnlimited}
 use Rattle.steps.specs.Ruled.{HasRule}
 use Rattle.steps.specs.Steady.{IsSteady}
 use Rattle.steps.specs.Edits.{datasets_of, with_datasets, put, StaysUnlimited, CanPut}

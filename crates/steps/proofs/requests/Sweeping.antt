@@ -9,8 +9,8 @@ use Rattle.world.proofs.changes.Kept.{losses_reach}
 use Rattle.world.proofs.steps.StateSteps.{sweep_swept}
 use Rattle.world.proofs.steps.States.{sweep_keeps}
 use Rattle.world.proofs.removals.WithoutSnaps.{without_from}
-use Rattle.accounts.specs.Limits.{HasLimits}
-use Rattle.accounts.proofs.Steps.{sweep_limits}
+use Rattle.limits.specs.Limits.{HasLimits}
+use Rattle.limits.proofs.Steps.{sweep_limits}
 use Rattle.removals.specs.Requests.{swept}
 use Rattle.steps.specs.Edits.{datasets_of, lose, CanLose}
 

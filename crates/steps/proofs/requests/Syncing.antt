@@ -31,7 +31,7 @@ use Rattle.steps.specs.Steady.{IsSteady}
 use Rattle.world.specs.Tables.{Datasets}
 use Rattle.steps.specs.Edits.{datasets_of, synced, CanSync}
 use Rattle.steps.proofs.numbers.Known.{states_of, of_states}
-use Rattle.accounts.proofs.Steps.{sync_limits}
+use Rattle.limits.proofs.Steps.{sync_limits}
 use Rattle.steps.proofs.quotas.Unlimited.{still_swept, same_known, same_origins}
 use Rattle.steps.proofs.numbers.Ruled.{no_choice, refused_by, done_by}
 

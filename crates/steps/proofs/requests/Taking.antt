@@ -28,7 +28,7 @@ use Rattle.model.specs.requests.Receive.{before_receive, stream_row}
 use Rattle.world.specs.Sets.{Has, AreDisjoint}
 use Rattle.world.specs.Takings.{AreTakable}
 use Rattle.world.specs.Tables.{Datasets, world_of}
-use Rattle.accounts.specs.Limits.{IsUnlimited}
+use Rattle.limits.specs.Limits.{IsUnlimited}
 use Rattle.removals.specs.declared.working_copy.WorkingCopy.{WorkingCopy}
 use Rattle.removals.specs.Edits.{HasLost}
 use Rattle.receives.specs.Ends.{CanFinish, HasReceived}

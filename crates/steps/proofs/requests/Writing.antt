@@ -42,9 +42,9 @@ use Rattle.world.specs.Dead.{base_of}
 use Rattle.world.specs.Tables.{Datasets, world_of}
 use Rattle.world.proofs.lists.SetCounts.{in_union_left}
 use Rattle.world.proofs.changes.Kept.{reach_is, union-fields}
-use Rattle.accounts.specs.Limits.{IsUnlimited}
-use Rattle.accounts.proofs.Limits.{limits_met}
-use Rattle.accounts.proofs.Rows.{limits_asked}
+use Rattle.limits.specs.Limits.{IsUnlimited}
+use Rattle.limits.proofs.Limits.{limits_met}
+use Rattle.limits.proofs.AskedRows.{limits_asked}
 use Rattle.steps.specs.Ruled.{HasRule}
 use Rattle.steps.specs.Steady.{IsSteady, HasNoDataset}
 use Rattle.steps.specs.Asked.{asked_by_change}

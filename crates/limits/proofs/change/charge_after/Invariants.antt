@@ -2,8 +2,8 @@ use Rattle.std.proofs.Common.{◌≡◌, ◌<◌, true, length, slice_index_or, 
 use Rattle.std.specs.FinMap.{keys}
 use Rattle.model.specs.World.{World}
 use Rattle.world.specs.Tables.{world_of}
-use Rattle.accounts.specs.Levels.{IsUnder}
-use Rattle.accounts.specs.Limits.{AreQuotasMet}
+use Rattle.limits.specs.Levels.{IsUnder}
+use Rattle.limits.specs.Limits.{AreQuotasMet}
 use Rattle.limits.specs.declared.line.Line.{Line}
 use Rattle.limits.specs.Lines.{is_in_quota}
 use Rattle.limits.specs.Ledgers.{ledger_of}

@@ -15,7 +15,7 @@ use Rattle.model.specs.Targets.{is_block}
 use Rattle.model.specs.declared.request.ObjectBlock.{ObjectBlock}
 use Rattle.model.proofs.Blocks.{block_tells, not_false}
 use Rattle.datasets.specs.Rows.{live_of}
-use Rattle.images.proofs.LiveTrees.{found_live, absent_live}
+use Rattle.image.proofs.LiveTrees.{found_live, absent_live}
 use Rattle.pool.specs.Ahead.{leaves_in}
 use Rattle.pool.proofs.ahead.read_ahead.Goals as goal
 use Rattle.pool.proofs.ahead.read_ahead.Goals.{in-Some-leaf_of, in_default-leaf_of}

@@ -1,6 +1,6 @@
 use Rattle.std.proofs.Common.{sym, subst, arith}
 use Rattle.deadlist.specs.Held.{Held}
-use Rattle.destroyer.specs.Members.{dead_blocks, dead_set}
+use Rattle.snap.specs.Members.{dead_blocks, dead_set}
 use Rattle.base.specs.Surveys.{AreDifferent}
 use Rattle.world.specs.Sets.{AreDisjoint}
 use Rattle.layers_tests.proofs.Young.{AreAfter, kept_apart, all_after, entries_once, entries_after, entries_by}

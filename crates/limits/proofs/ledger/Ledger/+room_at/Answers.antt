@@ -1,7 +1,7 @@
 use Rattle.std.proofs.Common.{◌+◌, ◌-◌, sym, ap, ◌∙◌, arith}
 use Rattle.std.specs.Option.{option_copied}
 use Rattle.model.specs.Sums.{within_quota}
-use Rattle.accounts.proofs.Names.{level_up}
+use Rattle.limits.proofs.Names.{level_up}
 use Rattle.limits.specs.Lines.{used_in}
 use Rattle.limits.proofs.Rooms.{parent_stands, few_slashes, line_found, root_room, child_room}
 use Rattle.limits.proofs.ledger.Ledger.+room_at.Goals as goal

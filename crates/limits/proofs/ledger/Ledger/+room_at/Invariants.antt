@@ -1,4 +1,4 @@
-use Rattle.accounts.specs.Levels.{slashes}
+use Rattle.limits.specs.Levels.{slashes}
 use Rattle.limits.proofs.ledger.Ledger.+room_at.Given as goal
 
 abbrev pub decreases-room_at : goal.decreases-room_at

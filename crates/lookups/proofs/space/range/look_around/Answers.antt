@@ -10,7 +10,7 @@ use Rattle.shared_list.specs.Left.{left}
 use Rattle.datasets.specs.Dead.{snaps_in}
 use Rattle.datasets.specs.Origins.{origin_group}
 use Rattle.world.specs.Worlds.{AreRising}
-use Rattle.accounts.specs.Space.{newest_group}
+use Rattle.limits.specs.Space.{newest_group}
 use Rattle.lookups.specs.Ranges.{has_clone_between, group_after, older_than}
 use Rattle.lookups.proofs.Walks.{passed, passed_more, walked_all, walked_to, newest_joined, end_is}
 use Rattle.lookups.proofs.space.range.look_around.Goals as goal

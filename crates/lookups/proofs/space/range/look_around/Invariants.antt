@@ -2,7 +2,7 @@ use Rattle.std.proofs.Common.{◌≡◌, None}
 use Rattle.std.specs.Prelude.{nat_lt}
 use Rattle.std.specs.List.{find, list_any}
 use Rattle.datasets.specs.Origins.{origin_group}
-use Rattle.accounts.specs.Space.{newest_group}
+use Rattle.limits.specs.Space.{newest_group}
 use Rattle.lookups.specs.Ranges.{has_clone_between, older_than}
 use Rattle.lookups.proofs.Walks.{passed}
 use Rattle.lookups.proofs.space.range.look_around.Given as goal

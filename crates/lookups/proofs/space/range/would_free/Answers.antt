@@ -1,6 +1,6 @@
 use Rattle.std.proofs.Common.{arith}
 use Rattle.std.specs.Option.{option_map}
-use Rattle.accounts.proofs.Bounds.{would_free_few}
+use Rattle.limits.proofs.CountBounds.{would_free_few}
 use Rattle.world.specs.Tables.{world_of}
 use Rattle.datasets.specs.Table.{IsTable}
 use Rattle.lookups.specs.Ranges.{range_ids}

@@ -7,8 +7,8 @@ use Rattle.batch.specs.declared.draft.Draft.{Draft}
 use Rattle.batch.specs.declared.numbers.NewBlock.{NewBlock}
 use Rattle.batch.specs.declared.update.Update.{Update}
 use Rattle.tree.specs.declared.block.Root.{Root}
-use Rattle.images.specs.Writes.{IsLeftBy}
-use Rattle.images.specs.declared.writes.Writes.{Writes}
+use Rattle.image.specs.Writes.{IsLeftBy}
+use Rattle.image.specs.declared.writes.Writes.{Writes}
 use Rattle.steps.specs.Edits.{datasets_of, with_datasets}
 use Rattle.pool.specs.Pools.{state_in}
 use Rattle.pool.proofs.Commits.{few, sound_changed}

@@ -1,5 +1,5 @@
 use Rattle.std.proofs.Common.{sym, subst, ◌∙◌}
-use Rattle.views.specs.Viewing.{Viewing}
+use Rattle.snap.specs.Viewing.{Viewing}
 use Rattle.pool.specs.Pools.{AreBelow}
 use Rattle.pool.proofs.Numbered.{closed_below}
 use Rattle.pool.proofs.keep.Keep.settle.Goals as goal

@@ -3,15 +3,15 @@ use Rattle.zalloc.specs.declared.BlockState.{BlockState}
 use Rattle.model.specs.Edits.{with_now}
 use Rattle.model.specs.Ids.{snap_id}
 use Rattle.model.specs.State.{State}
-use Rattle.views.specs.Viewing.{Viewing}
+use Rattle.snap.specs.Viewing.{Viewing}
 use Rattle.pool.specs.declared.pool.Plan.TheVariants.{Nothing, Open, Put}
 use Rattle.pool.specs.Effects.{effected, blocks_written}
-use Rattle.images.specs.StepWrites.{AreStepWrites}
+use Rattle.image.specs.StepWrites.{AreStepWrites}
 use Rattle.steps.specs.Edits.{viewing}
 use Rattle.pool.specs.Images.{IsImageOf}
 use Rattle.pool.proofs.Imaged.{effect_writes, no_writes}
 use Rattle.pool.proofs.Planned.{planned_writes}
-use Rattle.host_laws.specs.Both.{AreSnapshotsOne}
+use Rattle.laws.specs.Both.{AreSnapshotsOne}
 use Rattle.pool.specs.Plans.{CanDo}
 use Rattle.pool.specs.Pools.{state_in, shown_in, world_in, IsSound, AreBelow}
 use Rattle.pool.specs.Shown.{Shown, Leap}

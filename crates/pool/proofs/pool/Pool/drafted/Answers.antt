@@ -1,6 +1,6 @@
 use Rattle.std.proofs.Common.{◌≡◌, true, sym, ap, subst, ◌∙◌}
-use Rattle.images.specs.StepWrites.{writes_nothing}
-use Rattle.images.specs.Stored.{changes_maps}
+use Rattle.image.specs.StepWrites.{writes_nothing}
+use Rattle.image.specs.Stored.{changes_maps}
 use Rattle.pool.specs.Effects.{WritesBlocks, IsPerformed}
 use Rattle.pool.specs.Plans.{CanDo}
 use Rattle.pool.specs.Pools.{state_in}

@@ -1,6 +1,6 @@
 use Rattle.std.proofs.Common.{◌<◌, ◌^◌, subst, sym, arith}
-use Rattle.images.specs.Opened.{KeepsJust}
-use Rattle.images.proofs.Walking.{walks_now, walks_last}
+use Rattle.image.specs.Opened.{KeepsJust}
+use Rattle.image.proofs.Walking.{walks_now, walks_last}
 use Rattle.image.specs.ImageBlocks.{block_at}
 use Rattle.model.specs.World.{reach_of}
 use Rattle.pool.specs.Pools.{state_in}

@@ -14,18 +14,18 @@ use Rattle.zalloc.specs.Numbers.{NumberStates}
 use Rattle.model.specs.State.{fresh_state, fresh_world}
 use Rattle.model.specs.World.{FileSystem, empty_file_system, maps_of, reach_of}
 use Rattle.model.specs.declared.snapshot_id.SnapshotId.{SnapshotId}
-use Rattle.views.specs.Viewing.{Viewing}
+use Rattle.snap.specs.Viewing.{Viewing}
 use Rattle.world.specs.Worlds.{Place, InNow, InLast, maps_of_both}
 use Rattle.world.proofs.lineage.Put.{put_cases}
 use Rattle.world.proofs.lists.Maps.{no_value}
 use Rattle.image.specs.Image.{ShownImage}
 use Rattle.image.specs.ImageBlocks.{block_at}
-use Rattle.images.proofs.Drawing.{none_there, none_stored}
+use Rattle.image.proofs.Drawing.{none_there, none_stored}
 use Rattle.steps.proofs.numbers.Known.{states_of, known_are}
 use Rattle.steps.proofs.requests.Fresh.{none_first, first_steady, first_unlimited, first_numbers}
 use Rattle.pool.specs.declared.keep.Keep.{Keep}
 use Rattle.pool.specs.declared.worlds.World.{World}
-use Rattle.host_laws.proofs.Both.{begin_one}
+use Rattle.laws.proofs.Both.{begin_one}
 use Rattle.pool.specs.Images.{IsImageOf}
 use Rattle.pool.specs.Numbers.{synced_numbers}
 use Rattle.pool.specs.Pools.{state_in, IsSound, IsHeld}

@@ -1,3 +1,0 @@
-pub mod Peeling
-pub mod Pieces
-pub mod Together

@@ -1,8 +1,0 @@
-use Rattle.std.proofs.Common.{◌≡◌, ◌++◌}
-use Rattle.destroyer.specs.Members.{members, tops_after}
-use Rattle.destroyer.proofs.piece.keep_tops.Given as goal
-
-abbrev pub invariant-loop-top : goal.invariant-loop-top
-invariant-loop-top l =
-    (l.fn.tops.items ≡ l.yielded ++ l.top-iterator.rest.items)
-    × (tops_after l.cut.0 l.few.items ++ members l.pieces ≡ tops_after l.cut.0 l.yielded ++ members l.fn.pieces)

@@ -1,3 +1,0 @@
-pub mod Both
-pub mod Sources
-pub mod Answered

@@ -1,8 +1,0 @@
-use Rattle.host_laws.proofs.Answered.{sends_are_answered, bookmark_sends_are_answered}
-use Rattle.host_laws.proofs.sending.answered_send_laws.Goals as goal
-
-pub returns-clause-answered : goal.returns-clause-answered
-returns-clause-answered c = sends_are_answered
-
-pub returns-clause-bookmarks : goal.returns-clause-bookmarks
-returns-clause-bookmarks c = bookmark_sends_are_answered

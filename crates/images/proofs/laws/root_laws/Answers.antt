@@ -1,5 +1,0 @@
-use Rattle.images.proofs.Rooted.{root_walked}
-use Rattle.images.proofs.laws.root_laws.Goals as goal
-
-pub returns : goal.returns
-returns c = record { walked = λ image n size w r good all i. root_walked image n size w good all r i }

@@ -1,4 +1,0 @@
-pub mod Walk
--- Where sends may start in a table.
-pub mod Sources
-pub mod Starts

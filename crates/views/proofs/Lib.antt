@@ -1,3 +1,0 @@
-pub mod Numbered
-pub mod Rows
-pub mod Kept

@@ -1,9 +1,0 @@
-use Rattle.std.proofs.Common.{ap}
-use Rattle.views.specs.Viewing.{Viewing}
-use Rattle.views.proofs.Rows.{viewed_listed}
-use Rattle.views.proofs.list.Views.viewed.Goals as goal
-
--- their list has it where the map has
-pub returns-clause-ok : goal.returns-clause-ok
-returns-clause-ok c =
-    viewed_listed c.self.inside.open.items c.self.invariant.sorted c.args.self.now.opened (ap (λ (v : Viewing). v.opened) c.self.view_is) c.identities.result (rw (c.deref.ensures.value) at c.identities.ensures.ok)

@@ -1,5 +1,0 @@
-use Rattle.views.proofs.row.shows.Goals as goal
-
--- both parts are compared
-pub returns : goal.returns
-returns c = c.eq.ensures

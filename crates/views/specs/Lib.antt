@@ -1,3 +1,0 @@
-pub mod Viewing
-pub mod Entries
-pub mod Sound

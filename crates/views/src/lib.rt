@@ -1,7 +1,0 @@
-//! The open views of a pool, by their numbers.
-#![tactic(auto)]
-
-mod list;
-mod row;
-
-pub use list::{VIEW_LIMIT, Views};
