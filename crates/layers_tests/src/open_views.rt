@@ -1,8 +1,8 @@
 //! The open views of a pool: opened and closed by hand, and as many as there may be.
 use base::number::{Group, Guid};
 use model::snapshot_id::SnapshotId;
-use std::alloc::Global;
 use snap::{VIEW_LIMIT, Views};
+use std::alloc::Global;
 
 const OLD: SnapshotId = SnapshotId {
     group: Group(7),

@@ -18,9 +18,9 @@ use base::name::{Component, Member, NAME_LIMIT};
 use base::refusal::Refusal;
 use datasets::{FileSystem, Snapshot, Table, is_in_family};
 use model::snapshot_id::SnapshotId;
+use snap::Views;
 use std::alloc::Global;
 use std::sync::Arc;
-use snap::Views;
 
 /// Renames the snapshot of this name within its file system, and with `recursive` those of this name of all file systems below it (zfs-rename(8),
 /// -r). Refused are NoDataset where no snapshot has the name, else BadName where a new whole name would have over 255 bytes, else Exists where a file

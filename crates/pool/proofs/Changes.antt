@@ -39,8 +39,7 @@ use Rattle.pool.specs.Asked.{Asks}
 use Rattle.pool.specs.Images.{LeadsTo}
 use Rattle.image.specs.Writes.{IsPathOf, IsLeftBy, MayWrite}
 use Rattle.pool.specs.Numbers.{synced_numbers}
-use Rattle.steps.specs.Settles.{AllAllocated, releases}
-use Rattle.tree.specs.Taking.{AllFree}
+use Rattle.pool.specs.Effects.{CanTurn}
 use Rattle.pool.specs.Pools.{IsSound}
 use Rattle.image.specs.declared.writes.Writes.{Writes}
 use Rattle.pool.proofs.OneUpdate.{update_may, update_leads}
@@ -174,11 +173,9 @@ module _ (s : State) (numbers : List BlockState) (sound : IsSound s numbers) whe
       -- what that leaves to be written
       module _ (batch : IsBatch (u ∷ [])) (path : List (Option Root)) (was : IsPathOf (live_of s.now.file_systems name) (first_of u) (block_on path)) (writes : Writes)
           (left : IsLeftBy u s.now.group done.made.items path writes) where
-        pub may_settle : AllAllocated s.last.group numbers (map dead_block done.released.items)
-            × AllFree (releases s.last.group numbers (map dead_block done.released.items)) (map (λ n. n.0) done.taken.items) × MayWrite (synced_numbers s.size s.last) writes
+        pub may_settle : CanTurn s.last.group numbers done × MayWrite (synced_numbers s.size s.last) writes
         may_settle = (
-          release_them s sound.steady numbers sound.states new _ _ can_now,
-          take_them s sound.steady numbers sound.states new _ _ can_now,
+          (release_them s sound.steady numbers sound.states new _ _ can_now, take_them s sound.steady numbers sound.states new _ _ can_now),
           update_may s numbers sound name system.system system.is u batch new done (here done (Ok tt) applied).ok can_now.steady path was writes left,
         )
 

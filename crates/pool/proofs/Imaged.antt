@@ -78,7 +78,7 @@ module _ (s : State) (numbers : List BlockState) (sound : IsSound s numbers) (w 
   images (Blocks changed writes) settles q step blocks i is =
       let t = with_now s (world_in w) in
       let size = size_kept s i is in
-      let may = may_open i.kept i.bytes writes size (subst (λ k. MayWrite k writes) (sym is.kept) settles.may.2) in
+      let may = may_open i.kept i.bytes writes size (subst (λ k. MayWrite k writes) (sym is.kept) settles.may.1) in
       record {
         count = is.count;
         size = length-images_put i.kept i.bytes (writes_in (block_at i.bytes) writes) size may ∙ ap (λ n. 512 * n) is.count;

@@ -29,11 +29,8 @@ use Rattle.steps.proofs.requests.Receiving.{receive_release, receive_take}
 use Rattle.pool.specs.declared.effect.Effect.TheVariants.{Blocks}
 use Rattle.pool.specs.declared.keep.Keep.{Keep}
 use Rattle.pool.specs.declared.worlds.World.{World}
-use Rattle.base.specs.Surveys.{dead_block}
-use Rattle.tree.specs.Taking.{takes, AllFree}
-use Rattle.steps.specs.Settles.{AllAllocated, releases}
 use Rattle.pool.specs.Numbers.{synced_numbers}
-use Rattle.pool.specs.Effects.{IsPerformed}
+use Rattle.pool.specs.Effects.{turned, CanTurn, IsPerformed}
 use Rattle.pool.specs.Pools.{state_in, IsSound, IsHeld}
 use Rattle.image.specs.Writes.{ArePresent, MayWrite}
 use Rattle.image.specs.declared.writes.Writes.TheVariants.{Each}
@@ -60,7 +57,7 @@ module _ (k : Keep) (w : World) (held : IsHeld k w) (m : Member) (bytes : List �
   s = state_in k w
 
   abbrev numbers : List BlockState
-  numbers = takes (releases s.last.group k.numbers.present (map dead_block done.released.items)) (map (λ n. n.0) done.taken.items)
+  numbers = turned s.last.group k.numbers.present done
 
   sound : IsSound (put_freeing s i.to i.freeing) numbers
   sound = sound_received s k.numbers.present held.sound i.to i.freeing _ _ is.can
@@ -80,11 +77,12 @@ module _ (k : Keep) (w : World) (held : IsHeld k w) (m : Member) (bytes : List �
   intake_counted = record { kept = held.now; hierarchy = held.sound.steady.good.now.systems.hierarchy; differs = is.one }
 
   pub intake_may : (blocks : Vec (BlockNo × List ℕ) Global) → map written_pair blocks.items ≡ writes_of (live_of i.to.file_systems m.file_system) (map made_pair done.made.items)
-      → AllAllocated s.last.group k.numbers.present (map dead_block done.released.items)
-      × AllFree (releases s.last.group k.numbers.present (map dead_block done.released.items)) (map (λ n. n.0) done.taken.items) × MayWrite (synced_numbers s.size s.last) (Each blocks)
+      → CanTurn s.last.group k.numbers.present done × MayWrite (synced_numbers s.size s.last) (Each blocks)
   intake_may blocks told = (
-    receive_release s held.sound.steady k.numbers.present held.sound.states i.to i.freeing _ _ is.can,
-    receive_take s held.sound.steady k.numbers.present held.sound.states i.to i.freeing _ _ is.can,
+    (
+      receive_release s held.sound.steady k.numbers.present held.sound.states i.to i.freeing _ _ is.can,
+      receive_take s held.sound.steady k.numbers.present held.sound.states i.to i.freeing _ _ is.can,
+    ),
     each_may s held.sound.steady.good m mode is.sent i done is.made is.can.steady.good blocks told,
   )
 

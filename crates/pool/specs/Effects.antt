@@ -5,6 +5,7 @@ use Rattle.base.specs.Surveys.{dead_block}
 use Rattle.base.specs.declared.refusal.Refusal.{Refusal}
 use Rattle.zalloc.specs.declared.BlockState.{BlockState}
 use Rattle.zalloc.specs.States.{after_group}
+use Rattle.batch.specs.declared.draft.Draft.{Draft}
 use Rattle.tree.specs.Taking.{takes, AllFree}
 use Rattle.model.specs.Edits.{with_now}
 use Rattle.model.specs.Ids.{snap_id}
@@ -39,11 +40,21 @@ effected s (Synced last viewed) = record s { last = world_in last.value }
 effected s Abandoned = s
 effected s (Closed number) = closed s number
 
+-- the states of numbers after a change with this draft: what it releases, and then what it takes (profile)
+abbrev pub turned : ℕ → List BlockState → Draft → List BlockState
+turned group numbers draft = takes (releases group numbers (map dead_block draft.released.items)) (map (λ n. n.0) draft.taken.items)
+
+-- the numbers can turn so: what the draft releases is Allocated, and then what it takes is Free (profile)
+abbrev pub CanTurn : ℕ → List BlockState → Draft → Type 0
+CanTurn group numbers draft =
+    AllAllocated group numbers (map dead_block draft.released.items)
+    × AllFree (releases group numbers (map dead_block draft.released.items)) (map (λ n. n.0) draft.taken.items)
+
 -- the states of all numbers then, where the last sync left this world, in a pool of so many blocks (profile)
 abbrev pub numbers_after : OneWorld → ℕ → List BlockState → Effect → List BlockState
 numbers_after last size numbers Nothing = numbers
 numbers_after last size numbers (Guids next) = numbers
-numbers_after last size numbers (Blocks draft writes) = takes (releases last.group numbers (map dead_block draft.value.released.items)) (map (λ n. n.0) draft.value.taken.items)
+numbers_after last size numbers (Blocks draft writes) = turned last.group numbers draft.value
 numbers_after last size numbers (Taken taken) = releases last.group numbers (map dead_block taken.items)
 numbers_after last size numbers (Synced to viewed) = map after_group numbers
 numbers_after last size numbers Abandoned = synced_numbers size last
@@ -56,15 +67,12 @@ pub record CanBeLast (size : ℕ) (numbers : List BlockState) (to : World) (view
   pub swept : IsSweptBut to.table (map snap_id viewed)
   pub states : map after_group numbers ≡ synced_numbers size (world_in to)
 
--- that can be done: what is released is Allocated, and what is taken Free, each when its turn comes, and what is written may be; and what was
--- synced can be the last synced world (profile)
+-- that can be done: the numbers can turn as the draft says, and what is written may be; what is released is Allocated; and what was synced can
+-- be the last synced world (profile)
 abbrev pub MaySettle : OneWorld → ℕ → List BlockState → Effect → Type 0
 MaySettle last size numbers Nothing = Unit {0}
 MaySettle last size numbers (Guids next) = Unit {0}
-MaySettle last size numbers (Blocks draft writes) =
-    AllAllocated last.group numbers (map dead_block draft.value.released.items)
-    × AllFree (releases last.group numbers (map dead_block draft.value.released.items)) (map (λ n. n.0) draft.value.taken.items)
-    × MayWrite (synced_numbers size last) writes
+MaySettle last size numbers (Blocks draft writes) = CanTurn last.group numbers draft.value × MayWrite (synced_numbers size last) writes
 MaySettle last size numbers (Taken taken) = AllAllocated last.group numbers (map dead_block taken.items)
 MaySettle last size numbers (Synced to viewed) = CanBeLast size numbers to.value viewed.items
 MaySettle last size numbers Abandoned = Unit {0}

@@ -9,3 +9,4 @@ pub mod Plans
 pub mod Asked
 pub mod Applied
 pub mod Ahead
+pub mod Spares

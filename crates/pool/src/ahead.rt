@@ -1,5 +1,5 @@
 //! Reads of what requests will read, before they are made.
-ghost use Rattle.std.specs.Prelude.{◌≡◌, ◌+◌, ◌<◌, ◌≤◌};
+ghost use Rattle.std.specs.Prelude.{◌≡◌, ◌⊎◌, ◌+◌, ◌<◌, ◌≤◌};
 ghost use Rattle.std.specs.FinMap.{len};
 ghost use Rattle.tree.specs.Ahead.{many_blocks, present_on_paths};
 ghost use Rattle.datasets.specs.Rows.{live_of};
@@ -109,9 +109,10 @@ fn blocks_in(requests: &[Request]) -> Blocks<'_>
     found
 }
 
-/// Reads ahead for the first sixteen requests of a list. Returns how many requests to make before the next look.
+/// Reads ahead for the first sixteen requests of a list. Returns how many requests to make before the next look: 16, or 256 where nothing was
+/// read.
 pub(crate) fn look(table: &Table, requests: &[Request]) -> usize
-    ensures few { result ≤ 256 }
+    ensures { (result ≡ 16) ⊎ (result ≡ 256) }
 {
     let Blocks {
         name,

@@ -1,5 +1,5 @@
 //! The state of a pool other than its present world.
-ghost use Rattle.std.specs.Prelude.{◌≡◌, map};
+ghost use Rattle.std.specs.Prelude.{◌≡◌, ⊥, Some, None, IfSome, map};
 ghost use Rattle.base.specs.Surveys.{dead_block};
 ghost use Rattle.model.specs.Ids.{snap_id};
 ghost use Rattle.removals.specs.Requests.{IsSweptBut};
@@ -7,6 +7,7 @@ ghost use Rattle.steps.specs.Settles.{AllAllocated, releases};
 ghost use Rattle.tree.specs.Taking.{takes, AllFree};
 ghost use Rattle.pool.specs.Pools.{state_in, world_in, synced_numbers, AreBelow, IsKept};
 ghost use Rattle.pool.specs.Effects.{effected, numbers_after, image_after, MaySettle};
+ghost use Rattle.pool.specs.Spares.{HoldsMemory, path_of};
 
 use crate::effect::Effect;
 use crate::worlds::World;
@@ -14,9 +15,9 @@ use base::meter::{Meter, SegMeter};
 use base::number::{BlockNo, Dead, Group};
 use image::{ChangedPath, Image, Writes, write_down};
 use model::snapshot_id::SnapshotId;
+use snap::Views;
 use std::alloc::{AllocError, Global};
 use tree::Draft;
-use snap::Views;
 use zalloc::Numbers;
 
 /// All that a pool keeps beside its present world.
@@ -87,7 +88,11 @@ impl Spare {
     }
 
     /// The spare draft, or a new one.
-    pub(crate) fn draft(&mut self, alloc: Global) -> Result<Box<Draft>, AllocError> {
+    pub(crate) fn draft(&mut self, alloc: Global) -> Result<Box<Draft>, AllocError>
+        ensures kept { IfSome self.old.draft (λ d. result ≡ Ok d) }
+        ensures gone { self.new.draft ≡ None }
+        ensures path { self.new.path ≡ self.old.path }
+    {
         match self.draft.take() {
             Some(draft) => Ok(draft),
             None => Ok(Box::new(alloc, Draft::new(alloc))?),
@@ -95,7 +100,11 @@ impl Spare {
     }
 
     /// The spare path, or a new one.
-    pub(crate) fn path(&mut self, alloc: Global) -> Result<Box<ChangedPath>, AllocError> {
+    pub(crate) fn path(&mut self, alloc: Global) -> Result<Box<ChangedPath>, AllocError>
+        ensures kept { IfSome self.old.path (λ p. result ≡ Ok p) }
+        ensures gone { self.new.path ≡ None }
+        ensures draft { self.new.draft ≡ self.old.draft }
+    {
         match self.path.take() {
             Some(path) => Ok(path),
             None => Ok(Box::new(alloc, ChangedPath::new())?),
@@ -103,7 +112,10 @@ impl Spare {
     }
 
     /// Keeps these for the next change; a draft whose lists have taken memory goes.
-    fn keep(&mut self, draft: Box<Draft>, writes: Writes<'_>) {
+    fn keep(&mut self, draft: Box<Draft>, writes: Writes<'_>)
+        ensures draft { (HoldsMemory draft.value → ⊥) → self.new.draft ≡ Some draft }
+        ensures path { IfSome (path_of writes.entry) (λ p. self.new.path ≡ Some p) }
+    {
         if !draft.is_spilled() {
             self.draft = Some(draft);
         }

@@ -30,11 +30,11 @@ use image::{DatasetRoot, Image, roots_of};
 use model::reply::Reply;
 use model::request::{ObjectBlock, Request};
 use model::snapshot_id::SnapshotId;
+use snap::Views;
 use std::alloc::Global;
 use std::marker::Model;
 use std::snapshot::Snapshot;
 use toll::Toll;
-use snap::Views;
 use zalloc::{MOST_BLOCKS, Numbers};
 
 /// A pool of blocks with its file systems and snapshots. Contracts see its state, the state of each block number, and its image.

@@ -10,8 +10,8 @@ use crate::worlds::{World, copy_of};
 use base::meter::SegMeter;
 use base::refusal::Refusal;
 use datasets::LAST_GROUP;
-use snap::Slice;
 use removals::WorkingCopy;
+use snap::Slice;
 use std::alloc::Global;
 use steps::renew;
 

@@ -16,9 +16,9 @@ use base::meter::SegMeter;
 use base::name::{DsName, Member, SnapName};
 use base::refusal::Refusal;
 use datasets::Table;
-use snap::{Freeing, Views};
 use model::receiving::Receiving;
 use removals::WorkingCopy;
+use snap::{Freeing, Views};
 use std::alloc::Global;
 use stream::Stream;
 

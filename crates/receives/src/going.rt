@@ -18,9 +18,9 @@ use base::name::DsName;
 use base::number::Guid;
 use base::refusal::Refusal;
 use datasets::{Snapshot, Table};
-use snap::Freeing;
 use model::limits::{Limit, Limits};
 use removals::{WorkingCopy, empty_one, remove_newer_bookmarks, roll_back};
+use snap::Freeing;
 use std::alloc::Global;
 
 /// The datasets with this file system rolled back to its newest snapshot and without the bookmarks that are newer, or unchanged where it has no

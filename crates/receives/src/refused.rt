@@ -14,8 +14,8 @@ use base::refusal::Refusal;
 use datasets::{FileSystem, LAST_GROUP, SNAPSHOT_LIMIT, Snapshot, Table};
 use model::receiving::Receiving;
 use removals::refusal_after;
-use stream::Stream;
 use snap::Views;
+use stream::Stream;
 
 /// The refusal of a receive of this stream as a snapshot of this name, if any, without the limits of file systems (zfs-receive(8)). BadStream where
 /// a full stream is to make a clone, or an incremental one is to replace a file system; else as the function for the mode says. It costs the

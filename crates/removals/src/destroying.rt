@@ -19,8 +19,8 @@ use base::meter::SegMeter;
 use base::name::DsName;
 use base::refusal::Refusal;
 use datasets::Table;
-use snap::{Freeing, Views};
 use model::destroy_target::DestroyTarget;
+use snap::{Freeing, Views};
 use std::alloc::Global;
 
 // Whether the file system of this name is a clone of a snapshot whose destroy is deferred. It costs the logarithm of the number of file

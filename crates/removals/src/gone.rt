@@ -13,8 +13,8 @@ use crate::working_copy::WorkingCopy;
 use base::meter::SegMeter;
 use base::refusal::Refusal;
 use datasets::Table;
-use snap::{Freeing, Views};
 use model::snap_names::SnapNames;
+use snap::{Freeing, Views};
 use std::alloc::Global;
 
 /// Destroys the snapshots of these names, and with `recursive` for each name those of that name of each descendant of its file system. With

@@ -9,8 +9,8 @@ ghost use Rattle.removals.specs.Needs.{is_held, is_held_after};
 use base::name::DsName;
 use base::number::Group;
 use datasets::{FileSystem, Snapshot, Table, is_in_family};
-use std::sync::Arc;
 use snap::Views;
+use std::sync::Arc;
 
 /// Whether a tag or an open view keeps this snapshot. It costs the number of open views.
 pub(crate) fn is_held(views: &Views, snapshot: &Snapshot) -> bool

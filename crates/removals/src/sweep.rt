@@ -16,9 +16,9 @@ use base::meter::SegMeter;
 use base::refusal::Refusal;
 use datasets::{FileSystem, Snapshot, Table};
 use model::snapshot_id::SnapshotId;
+use snap::Views;
 use std::alloc::Global;
 use std::sync::Arc;
-use snap::Views;
 
 // The snapshot of this identity with its file system, where the snapshot's destroy is deferred and no tag, no open view and no clone needs it.
 // It costs the number of open views, and the number of file systems times the logarithm of that of the snapshots of one.

@@ -21,8 +21,8 @@ use base::name::DsName;
 use base::number::Group;
 use base::refusal::Refusal;
 use datasets::{FileSystem, Table};
-use snap::{Freeing, Views};
 use model::snapshot_id::SnapshotId;
+use snap::{Freeing, Views};
 use std::alloc::Global;
 use std::sync::Arc;
 

@@ -11,8 +11,8 @@ use base::meter::Meter;
 use base::name::Target;
 use base::refusal::Refusal;
 use datasets::Table;
-use model::reply::Reply;
 use lookups::{sources::start_of, stream_bytes};
+use model::reply::Reply;
 use std::alloc::Global;
 
 // Replies with the stream of a send of the snapshot of this name from this source, or of a full send where there is none; or with the refusal.
