@@ -3,7 +3,8 @@ use base::name::{DsName, MarkName, SnapName, Target};
 use base::refusal::Refusal;
 use datasets::Table;
 use marks::bookmark;
-use snap::{Guids, clones::clone_snapshot, snapshot};
+use snap::clones::clone_snapshot;
+use snap::{Guids, snapshot};
 use std::alloc::Global;
 use std::slice::from_ref;
 

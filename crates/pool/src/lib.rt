@@ -26,7 +26,7 @@ mod syncing;
 mod viewing;
 mod worlds;
 
-pub use image_laws::pool_image_laws;
 pub use image::DatasetRoot;
+pub use image_laws::pool_image_laws;
 pub use pool::{Pool, Ready};
 pub use zalloc::MOST_BLOCKS;

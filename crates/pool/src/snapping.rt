@@ -11,7 +11,8 @@ use base::meter::SegMeter;
 use base::name::{Component, DsName, MarkName, Member, Tag, Target};
 use marks::{bookmark, hold, release, rename_snapshot};
 use model::snap_names::SnapNames;
-use snap::{Guids, clones::{clone_snapshot, promote, rename}, snapshot};
+use snap::clones::{clone_snapshot, promote, rename};
+use snap::{Guids, snapshot};
 use std::alloc::Global;
 use steps::recount;
 

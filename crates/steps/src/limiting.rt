@@ -15,7 +15,8 @@ ghost use Rattle.steps.specs.Limiting.{IsOver, CanSettle, CanRecount};
 use base::name::DsName;
 use base::refusal::Refusal;
 use datasets::Table;
-use limits::{Ledger, Space, outlook::Outlook};
+use limits::outlook::Outlook;
+use limits::{Ledger, Space};
 
 // Makes this the ledger of these datasets, and gives the first limit that is broken, if any, in a pool that has them and `space` beside them. It
 // costs the number of file systems times its logarithm.

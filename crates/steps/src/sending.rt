@@ -11,7 +11,8 @@ use base::meter::Meter;
 use base::name::Target;
 use base::refusal::Refusal;
 use datasets::Table;
-use lookups::{sources::start_of, stream_bytes};
+use lookups::sources::start_of;
+use lookups::stream_bytes;
 use model::reply::Reply;
 use std::alloc::Global;
 

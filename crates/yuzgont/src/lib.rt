@@ -55,5 +55,5 @@ pub use session::{
     Book, CALL_LIMIT, Closed, ClosedView, Gate, OpenedView, Opening, Receipt, SEAT_LIMIT, Seat,
     Session, Turns, View,
 };
-pub use stream::{Record, Stream, StreamFault, read_stream, write_stream};
 pub use snap::VIEW_LIMIT;
+pub use stream::{Record, Stream, StreamFault, read_stream, write_stream};
