@@ -15,7 +15,6 @@ use Rattle.model.specs.Run.{Run}
 use Rattle.model.specs.Step.{Step, Follows, done, refused, out_of_memory}
 use Rattle.model.specs.requests.Abandon.{abandon_rule}
 use Rattle.world.specs.Dead.{IsThere}
-use Rattle.laws.specs.Bookmarks.{IsRunWithin}
 use Rattle.laws.specs.Lineages.{HasLineages}
 use Rattle.laws.specs.Runs.{InBoth, given}
 use Rattle.laws.proofs.Before.{world_before, either_world, LeavesLast, last_after}
@@ -24,6 +23,7 @@ use Rattle.laws.proofs.Lasting.{run_has, lineages_last}
 use Rattle.laws.proofs.Lineages.{there_closed}
 use Rattle.laws.proofs.Pools.{lineages_begin}
 use Rattle.laws.specs.Both.{AreSnapshotsOne, NeverGoesBefore, SnapshotsBeginOne, SnapshotsLastOne, SnapshotsStay, SnapshotsReturn}
+use Rattle.laws.proofs.Lasting.{run_within}
 
 pub begin_one : SnapshotsBeginOne
 unfolding fresh_state
@@ -114,13 +114,6 @@ last_one s u [] (r ∷ rs) lines one run = absurd run
 last_one s u (q ∷ qs) [] lines one run = absurd run
 last_one s u (q ∷ qs) (r ∷ rs) lines one (t, step, rest) =
     last_one t u qs rs (lineages_last s t (q ∷ []) (r ∷ []) lines (t, step, refl)) (one_after q r s t lines one step) rest
-
--- each run is one within what always holds
-run_within : (s u : State) (qs : List Request) (rs : List Reply) → Run s qs rs u → IsRunWithin (λ x. Unit {0}) s qs rs u
-run_within s u [] [] e = (tt, e)
-run_within s u [] (r ∷ rs) e = absurd e
-run_within s u (q ∷ qs) [] e = absurd e
-run_within s u (q ∷ qs) (r ∷ rs) (t, step, rest) = (tt, (t, step, run_within t u qs rs rest))
 
 -- a map that the present world holds of a snapshot, it holds after a run too, where the last synced one holds it or no Abandon goes back to that
 held_lasts : (s u : State) (qs : List Request) (rs : List Reply) (id : SnapId) (held : Map) → HasSnapMap id held s.now

@@ -93,7 +93,7 @@ module _ (Has Each : World → Type 0) (May : (Name → Bool) → Type 0) (none_
       (rest.0, λ last. rest.1 (k.1.1 last))
 
 -- each run is one within what always holds
-run_within : (s u : State) (qs : List Request) (rs : List Reply) → Run s qs rs u → IsRunWithin (λ x. Unit {0}) s qs rs u
+pub run_within : (s u : State) (qs : List Request) (rs : List Reply) → Run s qs rs u → IsRunWithin (λ x. Unit {0}) s qs rs u
 run_within s u [] [] e = (tt, e)
 run_within s u [] (r ∷ rs) e = absurd e
 run_within s u (q ∷ qs) [] e = absurd e

@@ -43,7 +43,7 @@ none_not : {X : Type 0} (o : Option X) → o ≡ None → not (is_some o) ≡ tr
 none_not None e = refl
 none_not (Some x) e = absurd (no_value x (sym e))
 
-from_if : {X : Type 0} (b : Bool) (x y : X) → cond b (Some x) None ≡ Some y → (b ≡ true) × (x ≡ y)
+pub from_if : {X : Type 0} (b : Bool) (x y : X) → cond b (Some x) None ≡ Some y → (b ≡ true) × (x ≡ y)
 from_if true x y e = (refl, same_value x y e)
 from_if false x y e = absurd (no_value y e)
 

@@ -41,7 +41,7 @@ older_before w d id i = let c = chain_before w w.group (previous_of w d) id i in
 
 -- ---- a source by its name
 
-same_parts : (a b : Member) → same_member a b ≡ true → (a.file_system ≡ b.file_system) × (a.component ≡ b.component)
+pub same_parts : (a b : Member) → same_member a b ≡ true → (a.file_system ≡ b.file_system) × (a.component ≡ b.component)
 same_parts a b e =
     let p = and_parts (same_name a.file_system b.file_system) (same_name a.component b.component) e in
     (one_name a.file_system b.file_system p.0, one_name a.component b.component p.1)

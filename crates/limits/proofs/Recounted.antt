@@ -1,5 +1,5 @@
 -- Datasets that differ from earlier ones in the account of one file system, or in none.
-use Rattle.std.proofs.Common.{◌≡◌, ℕ, ◌+◌, ◌-◌, true, false, List, [], ◌∷◌, Option, Some, None, map, is_some, refl, sym, ap, subst, ◌∙◌, ⊎_elim, true≢false}
+use Rattle.std.proofs.Common.{◌≡◌, ℕ, ◌+◌, ◌-◌, true, List, [], ◌∷◌, Option, Some, None, map, is_some, refl, sym, ap, subst, ◌∙◌, ⊎_elim}
 use Rattle.std.specs.Prelude.{unwrap_or}
 use Rattle.std.specs.Option.{option_map_or}
 use Rattle.std.specs.FinMap.{get}
@@ -26,6 +26,7 @@ use Rattle.limits.specs.Rows.{account_at}
 use Rattle.limits.proofs.Rows.{account_is}
 use Rattle.limits.proofs.SameKeys.{same_keys}
 use Rattle.limits.proofs.SameLines.{same_ledger}
+use Rattle.datasets.proofs.Rows.{none_from}
 
 -- two file systems have the same blocks and limits; tags, marks and bookmarks may differ
 pub record IsAlike (f g : FileSystem) : Type 0 where
@@ -76,10 +77,6 @@ module _ (old new : Datasets) (ms : List (List ℕ)) (shrunk : AreShrunk (world_
     others = λ q f g out at at'. let k = each q g at' in subst (λ (x : FileSystem). IsAlike x g) (same_value k.0 f (sym k.1 ∙ at)) (k.3 out);
     origins = kept_origins old new ms shrunk;
   }
-
-none_from : {A : Type 0} (x : Option A) → is_some x ≡ false → x ≡ None
-none_from None e = refl
-none_from (Some a) e = absurd (true≢false e)
 
 abbrev newest_of : BlockSet → List Map → BlockSet
 newest_of s [] = s

@@ -23,6 +23,7 @@ use Rattle.laws.proofs.Sent.{some_there, not_there}
 use Rattle.world.proofs.lists.Finding.{in_left, in_right, in_either}
 use Rattle.world.proofs.lists.Maps.{same_value, no_value}
 use Rattle.lookups.specs.Walk.{IsAt, IsYoung, IsOld, IsSentAt, AreRising, AreSent, AddsSent}
+use Rattle.laws.proofs.Sent.{from_if as if_some}
 
 -- a record that a send has of one of the places before n
 pub record IsSentBefore (t : ℕ) (b : Branch) (n : ℕ) (r : Record) : Type 0 where
@@ -60,11 +61,6 @@ places_end k high =
     let wide : 16 ^ k.level ≡ 16 ^ (k.level - 1) * 16 = ap (λ n. 16 ^ n) deep ∙ pow-suc 16 (k.level - 1) in
     let start = place_start k 16 high in
     omega (arith, start, wide)
-
--- what stands at a place
-if_some : {X : Type 0} (b : Bool) (x y : X) → cond b (Some x) None ≡ Some y → (b ≡ true) × (x ≡ y)
-if_some true x y e = (refl, same_value x y e)
-if_some false x y e = absurd (no_value y e)
 
 if_none : {X : Type 0} (a b : Bool) (x : X) → a ≡ true → cond (a && b) (Some x) None ≡ None → b ≡ false
 if_none true true x t e = absurd (no_value x (sym e))

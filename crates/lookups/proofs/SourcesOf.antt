@@ -35,7 +35,8 @@ use Rattle.limits.proofs.Next.{newest_last, next_there, next_previous}
 use Rattle.limits.proofs.Older.{older_none, older_first, origin_there}
 use Rattle.lookups.specs.Places.{IsPlace}
 use Rattle.lookups.specs.Sources.{snapshot_in, bookmark_in, older_sources, lineage_sources}
-use Rattle.lookups.proofs.Starts.{group_order, in_entries}
+use Rattle.laws.proofs.Sent.{entry_in as in_entries}
+use Rattle.lookups.proofs.Starts.{group_order}
 
 -- ---- lists
 

@@ -1,7 +1,7 @@
 -- The source that a send names.
 use Rattle.std.proofs.Common.{◌≡◌, ℕ, ◌<◌, ◌≤◌, true, false, List, [], ◌∷◌, ◌++◌, Option, Some, None, map, refl, sym, ap, subst, ◌∙◌, ◌⊎◌, inl, inr, ⊎_elim, true≢false, arith}
 use Rattle.std.specs.Prelude.{nat_lt}
-use Rattle.std.proofs.lemmas.Bool.{and_parts, lt-ltb, ltb-true}
+use Rattle.std.proofs.lemmas.Bool.{lt-ltb, ltb-true}
 use Rattle.std.specs.List.{filter_map, find}
 use Rattle.std.specs.Option.{option_map, option_map_or, option_and_then}
 use Rattle.std.specs.FinMap.{get, entries}
@@ -19,7 +19,6 @@ use Rattle.model.specs.requests.Send.{Start, source_at, snapshot_source, bookmar
 use Rattle.world.specs.Sets.{IsExactOrder}
 use Rattle.world.specs.Shapes.{Name, name_order}
 use Rattle.world.specs.Tables.{Datasets, world_of}
-use Rattle.world.specs.Usage.{IsEntry}
 use Rattle.world.proofs.lineage.Bridge.{from_snap_at, snap_is_at}
 use Rattle.world.proofs.lists.Finding.{from_find, find_only, find_none, found_none, in_filter, from_filter, in_left, in_right, in_either, name_itself, one_name}
 use Rattle.world.proofs.lists.Listed.{map_in}
@@ -31,13 +30,10 @@ use Rattle.lookups.specs.Places.{IsPlace}
 use Rattle.lookups.specs.Since.{is_before}
 use Rattle.lookups.proofs.Places.{IsSnapshot}
 use Rattle.lookups.proofs.SourceLists.{in_given, from_given, key_of}
+use Rattle.laws.proofs.SourceNames.{same_parts}
+use Rattle.laws.proofs.Sent.{entry_in as in_entries}
 
 -- ---- the same name
-
-same_parts : (a b : Member) → same_member a b ≡ true → (a.file_system ≡ b.file_system) × (a.component ≡ b.component)
-same_parts a b e =
-    let p = and_parts (same_name a.file_system b.file_system) (same_name a.component b.component) e in
-    (one_name a.file_system b.file_system p.0, one_name a.component b.component p.1)
 
 same_itself : (m : Member) → same_member m m ≡ true
 same_itself m = rw (name_itself m.file_system, name_itself m.component) refl
@@ -46,10 +42,6 @@ same_itself m = rw (name_itself m.file_system, name_itself m.component) refl
 
 pub group_order : IsExactOrder bookmark_cmp
 group_order = record { total = by_group.total; exact = by_group.exact }
-
-pub in_entries : {K X : Type 0} (es : List (K × X)) (k : K) (v : X) → IsEntry es k v → IsIn es (k, v)
-in_entries [] k v h = absurd h
-in_entries (e ∷ es) k v h = ⊎_elim (λ is. inl (λ i. (is.0 i, is.1 i))) (λ r. inr (in_entries es k v r)) h
 
 in_order : (f : FileSystem) (component : Name) (b : Bookmark) → get f.bookmarks component ≡ Some b → IsIn (bookmarks_in_order f) component
 in_order f component b at =

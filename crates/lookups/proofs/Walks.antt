@@ -1,5 +1,5 @@
 -- Walks over the snapshots of a file system.
-use Rattle.std.proofs.Common.{◌≡◌, ℕ, ◌<◌, ◌≤◌, Bool, true, false, cond, List, [], ◌∷◌, ◌++◌, Bor, map, Some, None, refl, ap, ◌∙◌, inl, inr, ⊎_elim, arith, ◌||◌, ◌&&◌}
+use Rattle.std.proofs.Common.{◌≡◌, ℕ, ◌<◌, ◌≤◌, Bool, true, false, cond, List, [], ◌∷◌, ◌++◌, Bor, map, Some, None, refl, sym, ap, ◌∙◌, inl, inr, ⊎_elim, arith, ◌||◌, ◌&&◌}
 use Rattle.std.specs.Prelude.{nat_lt, nat_le}
 use Rattle.std.specs.Option.{option_map, option_or}
 use Rattle.std.specs.List.{filter, find, list_any}
@@ -17,20 +17,12 @@ use Rattle.world.specs.Worlds.{AreRising}
 use Rattle.world.proofs.lineage.Bridge.{rising_above, rising_after}
 use Rattle.world.proofs.lists.Finding.{append_none, filter_join}
 use Rattle.limits.specs.Space.{newest_group}
+use Rattle.snap.proofs.Yielded.{yielded_front, yielded_all, snaps_yielded}
 use Rattle.lookups.specs.Ranges.{is_cloned, has_clone_between, group_after, older_than}
-
--- those that were yielded, and then those that are left
-pub yielded_front : {S A : Type 0} (rest : S → List A) (s : S) (xs : List (Bor A)) (t : S) → Yields (YieldsFirstRef rest) s xs t → rest s ≡ map (λ x. x.now) xs ++ rest t
-yielded_front rest s [] t y = ap rest y
-yielded_front rest s (x ∷ xs) t y = y.1 ∙ ap (λ ys. x.now ∷ ys) (yielded_front rest y.0 xs t y.2)
 
 -- the snapshots of those that were yielded
 abbrev pub passed : List (Bor Kept) → List Snap
 passed = map (λ x. x.now.snapshot)
-
-passed_is : (xs : List (Bor Kept)) → snaps_in (map (λ x. x.now) xs) ≡ passed xs
-passed_is [] = refl
-passed_is (x ∷ xs) = ap (λ l. x.now.snapshot ∷ l) (passed_is xs)
 
 pub passed_more : (xs : List (Bor Kept)) (x : Bor Kept) → passed (xs ++ x ∷ []) ≡ passed xs ++ x.now.snapshot ∷ []
 passed_more xs x = map-append {B = Snap} (λ (x : Bor Kept). x.now.snapshot) xs (x ∷ [])
@@ -38,14 +30,14 @@ passed_more xs x = map-append {B = Snap} (λ (x : Bor Kept). x.now.snapshot) xs 
 -- at the end of a walk
 module _ {S : Type 0} (rest : S → List Kept) (s : S) (xs : List (Bor Kept)) (t : S) (us : List Snap) (y : Yields (YieldsFirstRef rest) s xs t) (all : us ≡ snaps_in (rest s)) where
   pub walked_all : rest t ≡ [] → us ≡ passed xs
-  walked_all e = all ∙ ap snaps_in (yielded_front rest s xs t y ∙ ap (λ l. map (λ x. x.now) xs ++ l) e ∙ append_none _) ∙ passed_is xs
+  walked_all e = all ∙ ap snaps_in (yielded_all rest s xs t y e) ∙ sym (snaps_yielded xs)
 
 -- and where one more is left
 pub walked_to : {S : Type 0} (rest : S → List Kept) (s : S) (xs : List (Bor Kept)) (t : S) (us : List Snap) → Yields (YieldsFirstRef rest) s xs t → us ≡ snaps_in (rest s) → (x : Bor Kept) (ks : List Kept) → rest t ≡ x.now ∷ ks
     → us ≡ passed xs ++ x.now.snapshot ∷ snaps_in ks
 walked_to rest s xs t us y all x ks e =
     all ∙ ap snaps_in (yielded_front rest s xs t y ∙ ap (λ l. map (λ x. x.now) xs ++ l) e) ∙ map-append {B = Snap} (λ (k : Kept). k.snapshot) (map (λ x. x.now) xs) (x.now ∷ ks)
-    ∙ ap (λ l. l ++ x.now.snapshot ∷ snaps_in ks) (passed_is xs)
+    ∙ ap (λ l. l ++ x.now.snapshot ∷ snaps_in ks) (sym (snaps_yielded xs))
 
 -- ---- the newest that passes it
 

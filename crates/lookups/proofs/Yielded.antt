@@ -11,17 +11,6 @@ use Rattle.model.specs.World.{FileSystem}
 use Rattle.snapshots.specs.declared.kept.Kept.{Kept}
 use Rattle.datasets.specs.Dead.{snaps_in}
 use Rattle.lookups.specs.Named.{snapshot_names, bookmark_names}
-use Rattle.world.proofs.lists.Finding.{append_none}
-use Rattle.std.specs.Iterator.{Yields, YieldsFirstRef}
-
--- the front of what was left
-pub yielded_front : {S A : Type 0} (rest : S → List A) (s : S) (xs : List (Bor A)) (t : S) → Yields (YieldsFirstRef rest) s xs t → rest s ≡ map (λ x. x.now) xs ++ rest t
-yielded_front rest s [] t y = ap rest y
-yielded_front rest s (x ∷ xs) t y = y.1 ∙ ap (λ ys. x.now ∷ ys) (yielded_front rest y.0 xs t y.2)
-
--- all of it, where nothing is left
-pub yielded_all : {S A : Type 0} (rest : S → List A) (s : S) (xs : List (Bor A)) (t : S) → Yields (YieldsFirstRef rest) s xs t → rest t ≡ [] → rest s ≡ map (λ x. x.now) xs
-yielded_all rest s xs t y none = yielded_front rest s xs t y ∙ ap (λ ys. map (λ x. x.now) xs ++ ys) none ∙ append_none _
 
 texts : (name : List ℕ) (xs : List (Bor Kept))
     → map (λ t. snap_text (record { file_system = name; component = t.now.snapshot.name })) xs ≡ map (λ t. snap_text (record { file_system = name; component = t.name })) (snaps_in (map (λ x. x.now) xs))

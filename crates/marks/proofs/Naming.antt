@@ -43,6 +43,8 @@ use Rattle.snap.proofs.Shared.{any_value, shared_are}
 use Rattle.datasets.specs.Table.{IsTable}
 use Rattle.datasets.proofs.Removed.{rising_at}
 use Rattle.marks.specs.Naming.{snaps_renamed_in, snap_naming_refusal, renamed_at, is_long_at, is_taken_at, is_viewed_at}
+use Rattle.removals.proofs.Needed.{any_alike as any_same}
+use Rattle.removals.proofs.Emptying.{none_any as any_false}
 
 -- ---- the snapshot of a group under another name
 
@@ -55,14 +57,6 @@ abbrev named_in : List ℕ → FileSystem → ℕ → FileSystem
 named_in to f group = record f { snaps = map (named_if to group) f.snaps }
 
 -- ---- tests of lists
-
-any_false : {A : Type 0} (p : A → Bool) (xs : List A) → ((x : A) → IsIn xs x → p x ≡ false) → list_any p xs ≡ false
-any_false p [] h = refl
-any_false p (y ∷ ys) h = λ i. h y (inl refl) i || any_false p ys (λ x k. h x (inr k)) i
-
-any_same : {A : Type 0} (p q : A → Bool) (xs : List A) → ((x : A) → IsIn xs x → p x ≡ q x) → list_any p xs ≡ list_any q xs
-any_same p q [] h = refl
-any_same p q (y ∷ ys) h = λ i. h y (inl refl) i || any_same p q ys (λ x k. h x (inr k)) i
 
 -- where only one is named, a test of those that are is a test of the one
 any_named : (named test : Snap → Bool) (ts : List Snap) → ((v w : Snap) → IsIn ts v → IsIn ts w → named v ≡ true → named w ≡ true → v ≡ w)

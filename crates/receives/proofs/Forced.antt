@@ -16,7 +16,7 @@ use Rattle.world.proofs.lists.Maps.{same_value, no_value}
 use Rattle.world.proofs.lineage.Put.{put_here}
 use Rattle.removals.specs.Requests.{with_marks}
 use Rattle.removals.proofs.Marked.{marks_put}
-use Rattle.removals.proofs.Rolled.{insert_twice}
+use Rattle.world.proofs.removals.Rollbacks.{insert_twice}
 use Rattle.receives.specs.Requests.{back}
 use Rattle.receives.proofs.Newest.{newest_there}
 

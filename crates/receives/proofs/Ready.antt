@@ -36,6 +36,7 @@ use Rattle.world.proofs.views.ViewedRequests.{row_false}
 use Rattle.removals.specs.declared.working_copy.WorkingCopy.{WorkingCopy}
 use Rattle.receives.specs.Ends.{CanFinish}
 use Rattle.receives.specs.Requests.{begun, back, past, cloned, replaced, receive_refusal}
+use Rattle.datasets.proofs.Rows.{none_from as no_value_of}
 
 -- a file system that has no snapshot of the name
 takable_at : (ss : FileSystems) (m : Member) (f : FileSystem) → get ss m.file_system ≡ Some f → ((u : Snap) → IsIn f.snaps u → u.name ≡ m.component → ⊥) → AreTakable ss (m ∷ [])
@@ -75,10 +76,6 @@ can_close t going e =
 new_opens : (t : Datasets) (name : List ℕ) → first_of (new_row (world_of t) name) ≡ None → t.group + 1 < 2 ^ 64
 new_opens t name none = can_close t 0 (or_none (nat_le file_system_limit (len t.file_systems)) (has_no_room (world_of t) 0)
     (row_false (new_row (world_of t) name) none (nat_le file_system_limit (len t.file_systems) || has_no_room (world_of t) 0, TooMany) (inr (inr (inl refl))))).1
-
-no_value_of : {A : Type 0} (x : Option A) → is_some x ≡ false → x ≡ None
-no_value_of None e = refl
-no_value_of (Some a) e = absurd (true≢false e)
 
 takable_now : (ss : FileSystems) (m : Member) → contains_key ss m.file_system ≡ true → is_some (option_and_then (λ (f : FileSystem). find (λ (u : Snap). same_name u.name m.component) f.snaps) (get ss m.file_system)) ≡ false → AreTakable ss (m ∷ [])
 takable_now ss m there new =

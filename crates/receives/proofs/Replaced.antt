@@ -27,7 +27,7 @@ use Rattle.world.proofs.lists.Maps.{same_value, no_value, key_cases}
 use Rattle.world.proofs.lists.SetCounts.{same_members}
 use Rattle.removals.specs.Needs.{has_clone, has_clone_and_is_later}
 use Rattle.removals.proofs.Clones.{outside_is}
-use Rattle.removals.proofs.Rolled.{insert_twice}
+use Rattle.world.proofs.removals.Rollbacks.{insert_twice}
 use Rattle.removals.proofs.Seen.{any_later}
 use Rattle.receives.specs.Requests.{replaced, with_limits}
 use Rattle.receives.proofs.Leaving.{all_go}

@@ -33,7 +33,8 @@ use Rattle.removals.specs.Requests.{without_family}
 use Rattle.removals.proofs.Clones.{is_uncloned}
 use Rattle.removals.proofs.Losses.{has_lost}
 use Rattle.removals.proofs.Once.{name_in, names_once, once_filtered, not_again}
-use Rattle.removals.proofs.Rolled.{insert_twice, all_later, upto_at}
+use Rattle.world.proofs.removals.Rollbacks.{insert_twice}
+use Rattle.removals.proofs.Rolled.{all_later, upto_at}
 use Rattle.removals.proofs.SystemsGone.{in_entries, get-family}
 
 -- ---- one file system
@@ -134,7 +135,7 @@ later_than_origin t good n f at s i =
     rising_above (origin_group f.origin) f.snaps s
     (subst (λ g. AreRising g f.snaps) (start_is (world_of t) t.group good.lines f.origin q (starts t.file_systems t.group good.lines n f at)).1 (rising t.file_systems t.group good.lines n f at)) i
 
-none_any : {A : Type 0} (p : A → Bool) (xs : List A) → ((x : A) → IsIn xs x → p x ≡ false) → list_any p xs ≡ false
+pub none_any : {A : Type 0} (p : A → Bool) (xs : List A) → ((x : A) → IsIn xs x → p x ≡ false) → list_any p xs ≡ false
 none_any p [] each = refl
 none_any p (x ∷ xs) each = ap (λ b. b || list_any p xs) (each x (inl refl)) ∙ none_any p xs (λ y i. each y (inr i))
 

@@ -23,7 +23,7 @@ use Rattle.datasets.specs.Origins.{origin_group}
 use Rattle.datasets.specs.Writes.{newest_group}
 use Rattle.datasets.specs.Rows.{Entry, live_of, snaps_at, with_live}
 use Rattle.world.specs.Shapes.{Name, name_order}
-use Rattle.world.specs.Worlds.{FileSystems, AreRising, AreFileSystems}
+use Rattle.world.specs.Worlds.{AreRising, AreFileSystems}
 use Rattle.world.specs.Outcomes.{is_one_of}
 use Rattle.world.specs.Tables.{Datasets, world_of}
 use Rattle.world.proofs.lists.Maps.{key_cases, same_value, no_value}
@@ -42,6 +42,7 @@ use Rattle.removals.proofs.Marked.{marks_put}
 use Rattle.removals.proofs.Needed.{is_held_at, later_held}
 use Rattle.removals.proofs.Seen.{any_later}
 use Rattle.removals.proofs.Yielded.{later_ids}
+use Rattle.world.proofs.removals.Rollbacks.{insert_twice}
 
 -- the last snapshots of one file system go
 module _ (t : Datasets) (good : AreFileSystems t.file_systems t.group) (r : Entry) (at : get t.file_systems r.0 ≡ Some r.1) (older newer : List Snap) (is : r.1.snaps ≡ older ++ newer) where
@@ -127,12 +128,6 @@ module _ (t : Datasets) (r : Entry) (at : get t.file_systems r.0 ≡ Some r.1) (
   later_gone good =
       last_go t good r at (snaps_upto r.1 g) (filter (λ (u : Snap). nat_lt g u.group) r.1.snaps) (two_parts g (start t.file_systems t.group good.lines r.0 r.1 at).base r.1.snaps (rising t.file_systems t.group good.lines r.0 r.1 at))
       ∙ sym upto_at
-
-pub insert_twice : (ss : FileSystems) (name : Name) (a b : FileSystem) → insert (insert ss name a) name b ≡ insert ss name b
-insert_twice ss name a b = same_map name_order.total name_order.exact _ _ (λ q. ⊎_elim
-    (λ (same : q ≡ name). ap (get (insert (insert ss name a) name b)) same ∙ put_here (insert ss name a) name b ∙ sym (put_here ss name b) ∙ ap (get (insert ss name b)) (sym same))
-    (λ (ne : ¬ (q ≡ name)). put_other (insert ss name a) name b q ne ∙ put_other ss name a q ne ∙ sym (put_other ss name b q ne))
-    (key_cases name_order q name))
 
 newest_is : (m : Map) (older : List Snap) (u : Snap) → newest_map m (older ++ u ∷ []) ≡ u.map
 newest_is m [] u = refl

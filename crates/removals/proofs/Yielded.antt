@@ -1,11 +1,7 @@
 -- The newer ones of the snapshots that an iterator has yielded.
-use Rattle.std.proofs.Common.{◌≡◌, ℕ, ◌<◌, Bool, true, false, cond, List, [], ◌∷◌, ◌++◌, Some, Bor, map, refl, sym, ap, subst, ◌∙◌, inl, inr, ⊎_elim, is_gt, nat_cmp, arith}
-use Rattle.std.specs.Cmp.{nat_cmp_is}
-use Rattle.std.specs.declared.cmp.Ordering.TheVariants.{Less, Equal, Greater}
-use Rattle.std.proofs.lemmas.Bool.{cases_lt, lt-ltb, le-ltb}
+use Rattle.std.proofs.Common.{◌≡◌, ℕ, ◌<◌, Bool, true, false, cond, List, [], ◌∷◌, ◌++◌, Some, Bor, map, refl, sym, ap, subst, ◌∙◌, inl, inr, ⊎_elim, arith}
 use Rattle.std.specs.Prelude.{nat_lt, is_some}
 use Rattle.std.specs.List.{filter}
-use Rattle.std.specs.Iterator.{Yields, YieldsFirstRef}
 use Rattle.std.specs.FinMap.{get}
 use Rattle.model.specs.World.{Snap, SnapId, id_of}
 use Rattle.model.specs.requests.Destroy.{is_one_of}
@@ -20,6 +16,7 @@ use Rattle.world.proofs.lineage.Bridge.{start, rising, rising_above}
 use Rattle.world.proofs.lists.Finding.{append_none, from_filter}
 use Rattle.world.proofs.lists.Listed.{in_map}
 use Rattle.world.proofs.removals.WithoutSnaps.{any_from}
+use Rattle.snap.proofs.Yielded.{snaps_yielded}
 use Rattle.removals.proofs.Identified.{without_ids, ids_then, ids_there}
 
 -- the identities of those of these snapshots that are of a later group than this one
@@ -54,19 +51,6 @@ module _ (t u : Datasets) (group : ℕ) (xs : List (Bor Kept)) (x : Bor Kept) (s
       so_far ∙ ap (without_ids t) (sym (append_none (newer_yielded group xs)))
       ∙ ap (λ b. without_ids t (newer_yielded group xs ++ map {A = Snap} id_of (cond b (x.now.snapshot ∷ []) []))) (sym older)
       ∙ ap (without_ids t) (sym (newer_join group xs x))
-
--- those that were yielded, and then those that are left
-pub yielded_front : {S A : Type 0} (rest : S → List A) (s : S) (xs : List (Bor A)) (t : S) → Yields (YieldsFirstRef rest) s xs t → rest s ≡ map (λ x. x.now) xs ++ rest t
-yielded_front rest s [] t y = ap rest y
-yielded_front rest s (x ∷ xs) t y = y.1 ∙ ap (λ ys. x.now ∷ ys) (yielded_front rest y.0 xs t y.2)
-
--- all of it, where nothing is left
-pub yielded_all : {S A : Type 0} (rest : S → List A) (s : S) (xs : List (Bor A)) (t : S) → Yields (YieldsFirstRef rest) s xs t → rest t ≡ [] → rest s ≡ map (λ x. x.now) xs
-yielded_all rest s xs t y none = yielded_front rest s xs t y ∙ ap (λ ys. map (λ x. x.now) xs ++ ys) none ∙ append_none _
-
-pub snaps_yielded : (xs : List (Bor Kept)) → map (λ (x : Bor Kept). x.now.snapshot) xs ≡ snaps_in (map (λ x. x.now) xs)
-snaps_yielded [] = refl
-snaps_yielded (x ∷ xs) = ap (λ l. x.now.snapshot ∷ l) (snaps_yielded xs)
 
 -- all that a file system has
 pub all_yielded : (group : ℕ) (us : List Snap) (xs : List (Bor Kept)) → us ≡ snaps_in (map (λ x. x.now) xs) → newer_yielded group xs ≡ later_ids group us
@@ -113,13 +97,3 @@ module _ (t : Datasets) (good : AreFileSystems t.file_systems t.group) (r : Entr
   newer_there u so_far =
       ap (λ (w : Datasets). is_some (snap_in_system w r.0 (id_of x.snapshot))) so_far
       ∙ ids_there t (newer_yielded group xs) r.0 r.1 x.snapshot at (kept_here r.1.snaps (map (λ (y : Bor Kept). y.now) xs) x ys is) out
-
--- a later group
-pub gt_is : (a g : ℕ) → is_gt (nat_cmp a g) ≡ nat_lt g a
-gt_is a g = ⊎_elim
-    (λ l. ap is_gt (sym (nat_cmp_is a g Greater l)) ∙ sym (lt-ltb g a l))
-    (λ l. ⊎_elim
-    (λ m. ap is_gt (sym (nat_cmp_is a g Less m)) ∙ sym (le-ltb g a l))
-    (λ m. ap is_gt (sym (nat_cmp_is a g Equal (omega arith))) ∙ sym (le-ltb g a l))
-    (cases_lt a g))
-    (cases_lt g a)

@@ -1,4 +1,4 @@
--- The snapshots up to a group, in a walk over those of a file system.
+-- What a walk over the snapshots of a file system has yielded, and those up to a group.
 use Rattle.std.proofs.Common.{◌≡◌, ℕ, ◌<◌, ◌&&◌, ◌||◌, Bool, true, false, cond, List, [], ◌∷◌, ◌++◌, Bor, map, refl, sym, ap, subst, ◌∙◌, inl, inr, ⊎_elim, is_gt, nat_cmp, true≢false, arith}
 use Rattle.std.specs.Cmp.{nat_cmp_is}
 use Rattle.std.specs.declared.cmp.Ordering.TheVariants.{Less, Equal, Greater}
@@ -26,7 +26,8 @@ yielded_front rest s (x ∷ xs) t y = y.1 ∙ ap (λ ys. x.now ∷ ys) (yielded_
 pub yielded_all : {S A : Type 0} (rest : S → List A) (s : S) (xs : List (Bor A)) (t : S) → Yields (YieldsFirstRef rest) s xs t → rest t ≡ [] → rest s ≡ map (λ x. x.now) xs
 yielded_all rest s xs t y none = yielded_front rest s xs t y ∙ ap (λ ys. map (λ x. x.now) xs ++ ys) none ∙ append_none _
 
-snaps_yielded : (xs : List (Bor Kept)) → map (λ (x : Bor Kept). x.now.snapshot) xs ≡ snaps_in (map (λ x. x.now) xs)
+-- the snapshots of those that were yielded
+pub snaps_yielded : (xs : List (Bor Kept)) → map (λ (x : Bor Kept). x.now.snapshot) xs ≡ snaps_in (map (λ x. x.now) xs)
 snaps_yielded [] = refl
 snaps_yielded (x ∷ xs) = ap (λ l. x.now.snapshot ∷ l) (snaps_yielded xs)
 

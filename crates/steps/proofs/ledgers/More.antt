@@ -28,10 +28,7 @@ use Rattle.steps.specs.Edits.{datasets_of}
 use Rattle.steps.proofs.ledgers.Kept.{can_recount}
 use Rattle.steps.proofs.requests.Cloning.{clone_can}
 use Rattle.steps.proofs.requests.Creating.{can_add, create_can}
-
-none_from : {A : Type 0} (o : Option A) → is_some o ≡ false → o ≡ None
-none_from None h = refl
-none_from (Some a) h = cc
+use Rattle.datasets.proofs.Rows.{none_from}
 
 module _ (t : Datasets) (name : Name) (made : FileSystem) (gone : get t.file_systems name ≡ None) (is : IsMade (world_of t) made) where
   abbrev new : Datasets

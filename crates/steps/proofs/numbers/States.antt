@@ -15,11 +15,7 @@ use Rattle.world.specs.Blocks.{block_order as o}
 use Rattle.world.proofs.lists.SetCounts.{in_union_left, in_union_right, from_union, in_difference, from_difference}
 use Rattle.world.proofs.maps.Cells.{number_in, from_number}
 use Rattle.steps.proofs.numbers.Free.{count_below}
-
-both_ways : (a b : Bool) → (a ≡ true → b ≡ true) → (b ≡ true → a ≡ true) → a ≡ b
-both_ways true b f g = sym (f refl)
-both_ways false true f g = absurd (true≢false (sym (g refl)))
-both_ways false false f g = refl
+use Rattle.steps.proofs.numbers.Settles.{both_ways}
 
 module _ (A L : BlockSet) where
   pub state_at-now : (b : Block) → Has A b → state_at A L b.number ≡ Allocated

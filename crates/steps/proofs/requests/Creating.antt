@@ -1,6 +1,6 @@
 -- A file system created.
-use Rattle.std.proofs.Common.{◌≡◌, ℕ, ◌<◌, Bool, true, false, cond, not, List, Option, Some, None, refl, sym, ap, subst, ◌∙◌, ◌⊎◌, ⊎_elim, true≢false, arith}
-use Rattle.std.specs.Prelude.{IsTrue, is_some, nat_le}
+use Rattle.std.proofs.Common.{◌≡◌, ℕ, ◌<◌, Bool, true, false, cond, not, List, Option, Some, None, refl, sym, ap, subst, ◌∙◌, ◌⊎◌, ⊎_elim, arith}
+use Rattle.std.specs.Prelude.{IsTrue, nat_le}
 use Rattle.std.specs.FinMap.{get, contains_key, len}
 use Rattle.std.specs.FinSet.{union}
 use Rattle.std.proofs.lemmas.Bool.Decides.{nat_tests}
@@ -25,16 +25,13 @@ use Rattle.steps.proofs.quotas.Limits.{kept_limits}
 use Rattle.steps.proofs.quotas.Unlimited.{unlimited_put, still_swept, same_known, put_known, new_origins}
 use Rattle.steps.proofs.numbers.Putting.{put_none}
 use Rattle.steps.proofs.numbers.Ruled.{no_choice, refused_by, no_memory_by, done_by}
+use Rattle.datasets.proofs.Rows.{none_from}
 
 -- where a file system of this name can be added
 pub record CanAdd (m : FileSystems) (k : List ℕ) : Type 0 where
   pub absent : get m k ≡ None
   pub parent : IsTrue (has_parent m k)
   pub room : len m < file_system_limit
-
-none_from : {A : Type 0} (o : Option A) → is_some o ≡ false → o ≡ None
-none_from None h = refl
-none_from (Some a) h = absurd (true≢false h)
 
 -- nothing refuses it exactly then
 pub can_add : (m : FileSystems) (k : List ℕ) → create_refusal m k ≡ None → CanAdd m k

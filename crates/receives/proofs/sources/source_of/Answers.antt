@@ -5,7 +5,7 @@ use Rattle.model.specs.World.{Snap}
 use Rattle.snapshots.specs.declared.kept.Kept.{Kept}
 use Rattle.shared_list.specs.Left.{left}
 use Rattle.datasets.specs.Dead.{snaps_in}
-use Rattle.removals.proofs.Yielded.{yielded_all, snaps_yielded}
+use Rattle.snap.proofs.Yielded.{yielded_all, snaps_yielded}
 use Rattle.receives.proofs.Sourced.{last_yielded}
 use Rattle.receives.proofs.sources.source_of.Goals as goal
 

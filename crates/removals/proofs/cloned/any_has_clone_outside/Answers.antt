@@ -4,7 +4,7 @@ use Rattle.snapshots.specs.declared.kept.Kept.{Kept}
 use Rattle.shared_list.specs.Left.{left}
 use Rattle.datasets.specs.Dead.{snaps_in}
 use Rattle.removals.specs.Families.{is_cloned_outside}
-use Rattle.removals.proofs.Yielded.{yielded_all, yielded_front, snaps_yielded}
+use Rattle.snap.proofs.Yielded.{yielded_all, yielded_front, snaps_yielded}
 use Rattle.removals.proofs.Seen.{any_pushed, any_here}
 use Rattle.snap.proofs.Shared.{any_value}
 use Rattle.removals.proofs.cloned.any_has_clone_outside.Goals as goal

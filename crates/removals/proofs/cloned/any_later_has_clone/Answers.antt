@@ -6,7 +6,7 @@ use Rattle.snapshots.specs.declared.kept.Kept.{Kept}
 use Rattle.shared_list.specs.Left.{left}
 use Rattle.datasets.specs.Dead.{snaps_in}
 use Rattle.removals.specs.Needs.{has_clone, has_clone_and_is_later}
-use Rattle.removals.proofs.Yielded.{gt_is, yielded_all, yielded_front, snaps_yielded}
+use Rattle.snap.proofs.Yielded.{gt_is, yielded_all, yielded_front, snaps_yielded}
 use Rattle.removals.proofs.Seen.{any_pushed, any_here}
 use Rattle.snap.proofs.Shared.{any_value}
 use Rattle.removals.proofs.cloned.any_later_has_clone.Goals as goal

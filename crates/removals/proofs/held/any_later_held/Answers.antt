@@ -5,7 +5,7 @@ use Rattle.snapshots.specs.declared.kept.Kept.{Kept}
 use Rattle.shared_list.specs.Left.{left}
 use Rattle.datasets.specs.Dead.{snaps_in}
 use Rattle.removals.specs.Needs.{is_held, is_held_after}
-use Rattle.removals.proofs.Yielded.{gt_is, yielded_all, yielded_front, snaps_yielded}
+use Rattle.snap.proofs.Yielded.{gt_is, yielded_all, yielded_front, snaps_yielded}
 use Rattle.removals.proofs.Seen.{any_pushed, any_here}
 use Rattle.snap.proofs.Shared.{any_value}
 use Rattle.removals.proofs.held.any_later_held.Goals as goal

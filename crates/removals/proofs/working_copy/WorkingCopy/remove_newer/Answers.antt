@@ -12,7 +12,8 @@ use Rattle.removals.specs.Needs.{has_clone, has_clone_and_is_later}
 use Rattle.removals.proofs.Identified.{without_ids, ids_none, ids_clones}
 use Rattle.removals.proofs.Losses.{lost_none, lost_then}
 use Rattle.removals.proofs.Rolled.{later_gone}
-use Rattle.removals.proofs.Yielded.{newer_there, newer_yielded, newer_goes, older_stays, yielded_all, yielded_front, all_yielded, gt_is, kept_here}
+use Rattle.snap.proofs.Yielded.{yielded_all, yielded_front, gt_is}
+use Rattle.removals.proofs.Yielded.{newer_there, newer_yielded, newer_goes, older_stays, all_yielded, kept_here}
 use Rattle.removals.proofs.working_copy.WorkingCopy.remove_newer.Goals as goal
 
 pub loop-kept-init : goal.loop-kept-init
