@@ -16,9 +16,9 @@ CRATES = Path(__file__).resolve().parent.parent / "crates"
 ROOTS = ("model/specs/Step", "model/specs/Run")
 # The definitions that the contract of a promise cites. `between` is what holds of a pool between two steps, and what a request does beside its step.
 PROMISES = {
-    "snapshots": ("host_laws/specs/Both",),
-    "quotas": ("accounts/specs/Limits",),
-    "sends": ("host_laws/specs/Answered", "laws/specs/Sends", "laws/specs/Laws"),
+    "snapshots": ("laws/specs/Both",),
+    "quotas": ("limits/specs/Limits",),
+    "sends": ("laws/specs/Answered", "laws/specs/Sends", "laws/specs/Laws"),
     "threads": ("session/specs/Receipts", "session/specs/Whole", "session/specs/History"),
     "lines": ("script/specs/Run", "script/specs/Lines", "script/specs/Words", "script/specs/Meaning", "script/specs/Text"),
     "between": ("pool/specs/Applied",),

@@ -187,7 +187,7 @@ def layers():
         p.line(x, top, x, ends[-1], "#444")
         for end in ends:
             p.arrow(x, end, 736, end)
-    p.words(14, y + 18, "Of what it means model alone has code; world and accounts are lemmas, laws has the laws. Tests try what they stand on.")
+    p.words(14, y + 18, "Of what it means model alone has code; world has lemmas, laws the laws. Tests try what they stand on.")
     return p
 
 
@@ -215,7 +215,7 @@ WRITE = [
     (3, "tree", "Tree::forecast, by batch::forecast_of"),
     (3, "limits", "outlook_of"),
     (3, "limits", "Ledger::over_after"),
-    (2, "images", "path_before: where the path's blocks are"),
+    (2, "image", "path_before: where the path's blocks are"),
     (2, "datasets", "Table::apply_live: the row"),
     (3, "file_system", "FileSystem::apply"),
     (4, "snapshots", "SnapshotList::last: the newest group"),
@@ -227,10 +227,10 @@ WRITE = [
     (5, "node", "the nodes on the path"),
     (4, "deadlist", "Deadlist::push_upto"),
     (2, "steps", "settle, by Ledger::settle of limits"),
-    (2, "images", "writes_after: where they are now"),
+    (2, "image", "writes_after: where they are now"),
     (0, "pool", "Keep::settle: Effect::Blocks"),
     (1, "zalloc", "release of each that goes, take of each new one"),
-    (1, "images", "write_down, by Image::write_path"),
+    (1, "image", "write_down, by Image::write_path"),
 ]
 DESTROY = [
     (0, "script", "run_script, request_at, Caller::ask"),
@@ -239,16 +239,16 @@ DESTROY = [
     (2, "removals", "destroy, destroy_file_systems"),
     (3, "removals", "refusal_of: Busy, HasClones .."),
     (4, "datasets", "find, file_systems, clones_of"),
-    (4, "views", "is_viewed"),
+    (4, "snap", "Views::is_viewed"),
     (3, "removals", "WorkingCopy::of: copies of table and freeing"),
     (3, "removals", "empty_family: snapshot by snapshot"),
     (4, "datasets", "Table::remove_snapshot"),
     (5, "file_system", "FileSystem::splice"),
     (6, "deadlist", "take_after: the lost; append"),
     (6, "snapshots", "splice, or remove of the last"),
-    (4, "destroyer", "Freeing::add_dead"),
+    (4, "snap", "Freeing::add_dead"),
     (4, "datasets", "Table::vacate: the live map"),
-    (4, "destroyer", "Freeing::add_tree"),
+    (4, "snap", "Freeing::add_tree"),
     (3, "removals", "remove_family: row by row"),
     (4, "datasets", "Table::lost_with, remove"),
     (3, "removals", "sweep: deferred origins"),
@@ -256,7 +256,7 @@ DESTROY = [
     (2, "steps", "renew, by Ledger::fill of limits"),
     (0, "pool", "Keep::settle: Effect::Nothing"),
     (0, "pool", "later, Slice: Keep::slice"),
-    (1, "destroyer", "Freeing::slice"),
+    (1, "snap", "Freeing::slice"),
     (2, "tree", "Subtree::peel, node by node"),
     (2, "deadlist", "iter_from, entry by entry"),
     (0, "pool", "Keep::settle: Effect::Taken"),
@@ -273,7 +273,7 @@ RECEIVE = [
     (4, "datasets", "whole: Table::create"),
     (4, "removals", "with -F: WorkingCopy::lose_live"),
     (5, "datasets", "Table::rollback: the newest's map"),
-    (5, "destroyer", "Freeing::add_tree"),
+    (5, "snap", "Freeing::add_tree"),
     (4, "removals", "with -F: remove_newer_bookmarks"),
     (3, "receives", "updates_of: the records as a batch"),
     (3, "steps", "ask_limits: with a ledger only"),

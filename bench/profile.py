@@ -24,10 +24,10 @@ PARTS = [
     ("numbers", r"zalloc"),
     ("survey", r"batch"),
     ("tree", r"(tree|node|std_alloc::arc)"),
-    ("image", r"images?::"),
-    ("dead lists", r"(deadlist|shared_list|destroyer|lookups|sends|stream|sha2)"),
+    ("image", r"image::"),
+    ("dead lists", r"(deadlist|shared_list|snap::(freeing|piece|tops)|lookups|stream|sha2)"),
     ("limits", r"limits"),
-    ("datasets", r"(datasets|file_system|snapshots|snap|removals|marks|receives|views|model)::"),
+    ("datasets", r"(datasets|file_system|snapshots|snap|removals|marks|receives|model)::"),
     ("step", r"(pool|steps)::"),
 ]
 
