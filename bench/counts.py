@@ -1,11 +1,12 @@
 #!/usr/bin/env python3
-"""Compares the numbers that the pages tell of this repository with what is there.
+"""Compares the numbers and lists that the pages tell of this repository with what is there.
 
     python3 bench/counts.py [--write]
 
-Each sentence of CLAIMS stands once in its page, with numbers where it has words in braces, and each number is what COUNTERS counts under that word.
-Where one of these pages counts something of NOUNS in digits elsewhere, that is a fault too, since nothing compares it. --write puts the numbers that are so
-into the pages. The status is 1 where a number isn't so, or a sentence isn't there.
+Each sentence of CLAIMS stands once in its page, with numbers or lists of names where it has words in braces. Each number is what COUNTERS counts
+under that word, and each list what LISTS has there, in the order of the alphabet. Where one of these pages counts something of NOUNS in digits
+elsewhere, that is a fault too, since nothing compares it. --write puts the numbers and lists that are so into the pages. The status is 1 where one
+isn't so, or a sentence isn't there.
 """
 
 import argparse
@@ -22,12 +23,14 @@ CRATES = ROOT / "crates"
 WORDS = "none one two three four five six seven eight nine ten eleven twelve thirteen fourteen fifteen sixteen seventeen eighteen nineteen twenty".split()
 WORDS += [f"twenty-{it}" for it in WORDS[1:10]] + ["thirty"]
 NUMBER = rf"\d[\d,]*|{'|'.join(sorted(WORDS[1:], key=len, reverse=True))}"
+LIST = r"`\w+`(?:,\s+`\w+`)*"
 NOUNS = "crates|wrong bodies|cases|examples|refusals|exports|stories|promises|lines of (?:source|definitions|proofs|Python)"
 PAGES = ("README.md", "docs/GATE.md", "docs/AUDIT.md", "docs/PROVED.md", "docs/CONTRIBUTING.md")
 CLAIMS = (
     ("README.md", "## {promises} promises"),
     ("README.md", "The {crates} crates have some {source} lines of source, {definitions} of definitions and {proofs} of proofs"),
     ("README.md", "`crates/*/refused`: {bodies} wrong bodies of {crates with bodies} crates"),
+    ("README.md", "the ported crates {ported crates}, and what they use"),
     ("docs/PROVED.md", "want of memory is one of the {refusals} refusals"),
     ("docs/AUDIT.md", "lists the files that the step and the run use, {believed} of {files of definitions}, each after those that it uses: {believed lines} lines of definitions"),
     ("docs/AUDIT.md", "| `laws/specs/Both`, with others of `laws` and `world/specs` | {snapshots: files}, {snapshots: lines} |"),
@@ -38,6 +41,7 @@ CLAIMS = (
     ("docs/AUDIT.md", "| `pool/specs/Applied`, with `image/specs` and others below | {between: files}, {between: lines} |"),
     ("docs/AUDIT.md", "the same machine in {plain} lines of Python"),
     ("docs/AUDIT.md", "{bodies} wrong bodies of {crates with bodies} crates"),
+    ("docs/AUDIT.md", "the kit's library and of its crates {ported crates}."),
     ("docs/CONTRIBUTING.md", "There are {must-fail}, in {crates with must-fail} crates"),
     ("docs/GATE.md", "the {bodies} wrong bodies of {crates with bodies} crates"),
     ("docs/GATE.md", "the {cases} cases of `rows/` and the {scripts} scripts of `examples/`"),
@@ -79,6 +83,12 @@ def refusals():
     return len(re.findall(r"^    \w+(?: = \d+)?,", body, re.M))
 
 
+def ported_crates():
+    """The names in the lines of crates.txt that are no crates of this repository."""
+    lines = [it.partition(":") for it in listed(ROOT / "crates.txt")]
+    return sorted({name for _, _, names in lines for name in names.split()} - {head.split()[0] for head, _, _ in lines})
+
+
 COUNTERS = {
     "promises": promises,
     "refusals": refusals,
@@ -101,36 +111,44 @@ COUNTERS = {
     "examples": lambda: len([*EXAMPLES.glob("*.script"), *EXAMPLES.glob("*.py")]),
     "scripts of refused memory": lambda: len(listed(ROOT / "bench" / "refused.txt")),
 }
+LISTS = {"ported crates": ported_crates}
+REAL = COUNTERS | LISTS
 
 
 def value_of(text):
+    """The number that a text tells, in digits or as a word, or the names of its list."""
+    if text.startswith("`"):
+        return re.findall(r"\w+", text)
     return WORDS.index(text.lower()) if text.lower() in WORDS else int(text.replace(",", ""))
 
 
-def as_told(number, like):
-    """A number in the form of the one that it replaces: in digits or as a word, with its capital."""
-    if like.lower() not in WORDS or number >= len(WORDS):
-        return f"{number:,}"
-    return WORDS[number].capitalize() if like[0].isupper() else WORDS[number]
+def as_told(real, like=""):
+    """A list, or a number in the form of the one that it replaces: in digits or as a word, with its capital."""
+    if isinstance(real, list):
+        return ", ".join(f"`{it}`" for it in real)
+    if like.lower() not in WORDS or real >= len(WORDS):
+        return f"{real:,}"
+    return WORDS[real].capitalize() if like[0].isupper() else WORDS[real]
 
 
 def pattern_of(claim):
-    """A claim as a pattern in which any whitespace stands for a space, and its counters in their order."""
-    names = re.findall(r"\{(.*?)\}", claim)
-    parts = [re.escape(it).replace(r"\ ", r"\s+") for it in re.split(r"\{.*?\}", claim)]
-    return re.compile(rf"({NUMBER})".join(parts), re.I), names
+    """A claim as a pattern in which any whitespace stands for a space, and its words in braces in their order."""
+    parts = re.split(r"\{(.*?)\}", claim)
+    patterns = [re.escape(it).replace(r"\ ", r"\s+") for it in parts]
+    patterns[1::2] = [f"({LIST if it in LISTS else NUMBER})" for it in parts[1::2]]
+    return re.compile("".join(patterns), re.I), parts[1::2]
 
 
 def compare(page, text, claim):
-    """The page's text with the numbers that are so, what is wrong with the claim there, and where it stands."""
+    """The page's text with the numbers and lists that are so, what is wrong with the claim there, and where it stands."""
     pattern, names = pattern_of(claim)
     found = [*pattern.finditer(text)]
     if len(found) != 1:
         return text, [f"{page}: this stands {len(found)} times, and not once: {claim}"], []
     faults, made, at = [], "", 0
     for place, name in enumerate(names, 1):
-        told, real = found[0][place], COUNTERS[name]()
-        faults += [f"{page}: {told} for {real:,} ({name}): {claim}"] * (value_of(told) != real)
+        told, real = found[0][place], REAL[name]()
+        faults += [f"{page}: {told} for {as_told(real)} ({name}): {claim}"] * (value_of(told) != real)
         made += text[at : found[0].start(place)] + (as_told(real, told) if value_of(told) != real else told)
         at = found[0].end(place)
     return made + text[at:], faults, [found[0].span()]
@@ -157,7 +175,7 @@ def main():
         faults += uncounted(page, old)
         if is_written and text != old:
             (ROOT / page).write_text(text, encoding="utf-8")
-    print("".join(f"counts: {it}\n" for it in faults) + f"{count} numbers of {len(PAGES)} pages, {len(faults)} faults{' before they were written' * is_written}")
+    print("".join(f"counts: {it}\n" for it in faults) + f"{count} numbers and lists of {len(PAGES)} pages, {len(faults)} faults{' before they were written' * is_written}")
     return 1 if faults and not is_written else 0
 
 

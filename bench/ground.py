@@ -1,5 +1,5 @@
 #!/usr/bin/env python3
-"""Tells of the rows of base_rows, stream_rows, ground_rows, tree_rows and snapshot_rows what plain Python values tell, and compares.
+"""Tells of the rows of base_rows, ground_rows, tree_rows and snapshot_rows what plain Python values tell, and compares.
 
     python3 bench/ground.py
     python3 bench/ground.py --write
@@ -554,8 +554,8 @@ REFUSED = {
     "base_rows": {
         "names": [f"name.read {it}" for it in NAMES.split(",")],
         "values": ["value.grown", "value.blocks 7 7", "value.bytes ab ab"],
+        "a stream with a leaf": [f"stream.write {ONE_LEAF}", f"stream.again {ONE_LEAF}"],
     },
-    "stream_rows": {"a stream with a leaf": [f"stream.write {ONE_LEAF}", f"stream.again {ONE_LEAF}"]},
     "snapshot_rows": snapshot_rows.REFUSED,
     "tree_rows": tree_rows.REFUSED,
     "ground_rows": {

@@ -115,19 +115,18 @@ def reply_by_definition(copy):
 
 
 def rows_told(copy):
-    """A row that stands otherwise than plain values tell it; each crate of rows has its own."""
-    said = ""
-    names = ("base_rows", "stream_rows", "ground_rows", "tree_rows", "snapshot_rows", *ROWS)
-    for crate in names:
+    """A row that stands otherwise than plain values tell it; each crate of rows has its own, and base_rows one on streams too."""
+    said, rows = "", [(it, r"\bok$") for it in ("base_rows", "ground_rows", "tree_rows", "snapshot_rows", *ROWS)]
+    for crate, row in [*rows, ("base_rows", r"(?<=^stream\.laws => )ok$")]:
         file = copy.root / f"crates/{crate}/stdout"
         text = file.read_text()
-        copy.edit(f"crates/{crate}/stdout", r"\bok$", "none")
+        copy.edit(f"crates/{crate}/stdout", row, "none")
         status, told = copy.python(f"bench/{crate if crate in ROWS else 'ground'}.py")
         file.write_text(text)
         if not status:
             return status, f"{crate}: {told}"
         said += told
-    return 1, said, *(f"{it}: stands " for it in names)
+    return 1, said, *(f"{it}: stands " for it, _ in rows), "base_rows: stands stream."
 
 
 def changed_by_refusal(copy):
@@ -209,10 +208,13 @@ def layout(copy):
     return *copy.python("bench/layout.py"), "crates/toll/src/lib.rt isn't laid out"
 
 
-def count(copy):
+def count_or_list(copy):
+    """Numbers that aren't so, a list that lacks a name, and a ported crate of crates.txt that another list hasn't."""
     copy.edit("README.md", r"The \d+ crates", "The 7 crates")
     copy.edit("docs/AUDIT.md", r"(\d[\d,]*)(?= wrong bodies)", "9,999")
-    return *copy.python("bench/counts.py"), "README.md: 7 for ", "docs/AUDIT.md: 9,999 for "
+    copy.edit("docs/AUDIT.md", r"(?<=of its crates )`\w+`, ", "")
+    copy.edit("crates.txt", r"^(base: .*)$", r"\1 zzz")
+    return *copy.python("bench/counts.py"), "README.md: 7 for ", "docs/AUDIT.md: 9,999 for ", "docs/AUDIT.md: `byteorder`, ", "README.md: `arrayvec`, ", "`zzz` (ported crates)"
 
 
 def leak(copy):
@@ -277,7 +279,7 @@ BROKEN = {
     "a line of another function": (line_of_another_function, None),
     "a digest put right by hand": (digest_by_hand, None),
     "a file that isn't laid out": (layout, None),
-    "a count in a page": (count, None),
+    "a count or a list in a page": (count_or_list, None),
     "a leak in a host": (leak, LIBRARY),
     "a receive in one of its modes": (receive_in_a_mode, SHARED),
     "a destroy of several snapshots": (destroy_of_several, SHARED),

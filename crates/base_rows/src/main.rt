@@ -1,8 +1,8 @@
-//! Rows for the lowest crate: refusals, limits, meters, bytes, names, and readers and writers whose failures are counted.
+//! Rows for `base` and `stream`: refusals, limits, meters, bytes, names, readers and writers whose failures are counted, and streams.
 //!
 //! Each line of the standard input is a line of rows, as `row_machine` says, or a comment that begins with `#`. A row names what is asked and of
-//! what, and the program prints its line again with what that tells: `name.read system p/a => yes`. `bench/ground.py` tells the same of plain
-//! values, and has a line for each kind of row.
+//! what, and the program prints its line again with what that tells: `name.read system p/a => yes`. A row on streams, which may tell a text, is a
+//! line by itself; the module `streams` lists them. `bench/ground.py` tells the same of plain values, and has a line for each kind of row.
 //!
 //! Status 3 is want of memory for a line, or a failed read or write.
 #![tactic(auto)]
@@ -10,6 +10,7 @@
 mod broken;
 mod counted;
 mod names;
+mod streams;
 mod values;
 
 use row_machine::lines::{Rows, line_of};
@@ -34,6 +35,18 @@ impl Rows for Machine {
     }
 }
 
+/// Carries out a line of rows, and prints it with what it tells.
+fn print(rt: &impl Print, machine: &mut Machine, line: &str) -> io::Result<()> {
+    let Some(words) = line.strip_prefix("stream.") else {
+        let told = line_of(machine, line);
+        return println!(rt; "{line} => {told}");
+    };
+    match streams::told(machine.0, words) {
+        Ok(text) => println!(rt; "{line} => {text}"),
+        Err(refusal) => println!(rt; "{line} => error {refusal}"),
+    }
+}
+
 /// Runs the rows of the standard input.
 fn run(rt: &HostRuntime) -> io::Result<()> {
     let mut machine = Machine(rt.alloc());
@@ -43,8 +56,7 @@ fn run(rt: &HostRuntime) -> io::Result<()> {
         if row.is_empty() || row.starts_with('#') {
             println!(rt; "{row}")?;
         } else {
-            let told = line_of(&mut machine, row);
-            println!(rt; "{row} => {told}")?;
+            print(rt, &mut machine, row)?;
         }
     }
     Ok(())

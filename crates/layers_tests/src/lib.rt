@@ -1,4 +1,4 @@
-//! Tests from outside of what is to be freed, open views, sends and images, and of replies, names and entries as values. `stream_rows` and
+//! Tests from outside of what is to be freed, open views, sends and images, and of replies, names and entries as values. `base_rows` and
 //! `snapshot_rows` have the rows of the crates below.
 #![tactic(auto)]
 

@@ -1,5 +1,5 @@
 //! Bytes that are cut short, changed in a place, or go on.
-use crate::text::{bytes_of, kind_of};
+use crate::streams::text::{bytes_of, kind_of};
 use base::refusal::Refusal;
 use std::alloc::Global;
 

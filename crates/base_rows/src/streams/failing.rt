@@ -1,5 +1,5 @@
 //! Readers and writers that fail once.
-use crate::text::{bytes_of, stream_of};
+use crate::streams::text::{bytes_of, stream_of};
 use base::failing::{Counted, Failing};
 use base::refusal::Refusal;
 use std::alloc::Global;
