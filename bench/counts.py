@@ -41,7 +41,7 @@ CLAIMS = (
     ("docs/AUDIT.md", "| `pool/specs/Applied`, with `image/specs` and others below | {between: files}, {between: lines} |"),
     ("docs/AUDIT.md", "the same machine in {plain} lines of Python"),
     ("docs/AUDIT.md", "{bodies} wrong bodies of {crates with bodies} crates"),
-    ("docs/AUDIT.md", "the kit's library and of its crates {ported crates}."),
+    ("docs/AUDIT.md", "the kit's library and of its crates {ported crates}, and of what these use"),
     ("docs/CONTRIBUTING.md", "There are {must-fail}, in {crates with must-fail} crates"),
     ("docs/GATE.md", "the {bodies} wrong bodies of {crates with bodies} crates"),
     ("docs/GATE.md", "the {cases} cases of `rows/` and the {scripts} scripts of `examples/`"),
