@@ -1,21 +1,10 @@
 -- The roots of all datasets, as they are listed.
-use Rattle.std.proofs.Common.{◌≡◌, ℕ, List, [], ◌∷◌, ◌++◌, Bor, Some, map, refl, ap, ◌∙◌}
-use Rattle.std.specs.Iterator.{Yields, YieldsFirstRef}
-use Rattle.world.proofs.lists.Finding.{append_none}
+use Rattle.std.proofs.Common.{◌≡◌, ℕ, List, [], ◌∷◌, ◌++◌, Bor, Some, map, refl, ap}
 use Rattle.image.specs.HasBlocks.{root_of}
 use Rattle.model.specs.World.{FileSystem}
 use Rattle.datasets.specs.Dead.{snaps_in}
 use Rattle.snapshots.specs.declared.kept.Kept.{Kept}
 use Rattle.image.specs.Roots.{RootAt, snapshot_roots}
-
--- what an iterator has yielded is the front of what was left
-yielded_front : {S A : Type 0} (rest : S → List A) (s : S) (xs : List (Bor A)) (t : S) → Yields (YieldsFirstRef rest) s xs t → rest s ≡ map (λ x. x.now) xs ++ rest t
-yielded_front rest s [] t y = ap rest y
-yielded_front rest s (x ∷ xs) t y = y.1 ∙ ap (λ ys. x.now ∷ ys) (yielded_front rest y.0 xs t y.2)
-
--- and all of it, where nothing is left
-pub yielded_all : {S A : Type 0} (rest : S → List A) (s : S) (xs : List (Bor A)) (t : S) → Yields (YieldsFirstRef rest) s xs t → rest t ≡ [] → rest s ≡ map (λ x. x.now) xs
-yielded_all rest s xs t y none = yielded_front rest s xs t y ∙ ap (λ ys. map (λ x. x.now) xs ++ ys) none ∙ append_none _
 
 -- the root of a snapshot that was yielded
 abbrev pub kept_root : List ℕ → Bor Kept → RootAt

@@ -2,7 +2,8 @@ use Rattle.std.proofs.Common.{◌∙◌, sym, ap}
 use Rattle.shared_list.specs.Left.{left}
 use Rattle.datasets.specs.Dead.{snaps_in}
 use Rattle.datasets.specs.Rows.{entry_of}
-use Rattle.image.proofs.AllRoots.{yielded_all, snapshots_rooted}
+use Rattle.snap.proofs.Yielded.{yielded_all}
+use Rattle.image.proofs.AllRoots.{snapshots_rooted}
 use Rattle.image.proofs.roots.push_snapshots.Goals as goal
 
 -- those of all its snapshots
