@@ -12,7 +12,7 @@ pub struct Contents<'a> {
     held: Held<'a>,
 }
 
-// Who holds the bytes.
+/// Who holds the bytes.
 #[derive(Drop)]
 enum Held<'a> {
     Lent(&'a [u8; 512]),

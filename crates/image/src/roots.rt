@@ -21,7 +21,7 @@ pub struct DatasetRoot {
     pub root: Option<Root>,
 }
 
-// The root of a tree, with copies of the names. AllocError where memory is refused for these.
+/// The root of a tree, with copies of the names. AllocError where memory is refused for these.
 fn root_at(
     file_system: &DsName,
     snapshot: Option<&Component>,
@@ -42,7 +42,7 @@ fn root_at(
     })
 }
 
-// Adds the roots of a file system's snapshots. AllocError where memory is refused; then some may have been added.
+/// Adds the roots of a file system's snapshots. AllocError where memory is refused; then some may have been added.
 fn push_snapshots(
     roots: &mut Vec<DatasetRoot>,
     file_system: &FileSystem,
@@ -59,7 +59,7 @@ fn push_snapshots(
     Ok(())
 }
 
-// Adds the root of a file system's live tree, and those of its snapshots. AllocError where memory is refused; then some may have been added.
+/// Adds the root of a file system's live tree, and those of its snapshots. AllocError where memory is refused; then some may have been added.
 fn push_roots(
     roots: &mut Vec<DatasetRoot>,
     file_system: &FileSystem,

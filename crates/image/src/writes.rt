@@ -98,7 +98,7 @@ pub fn write_down(image: &mut Image, writes: &Writes<'_>)
     }
 }
 
-// The first leaf that an update changes. Constant time.
+/// The first leaf that an update changes. Constant time.
 fn first_leaf(update: &Update) -> u32
     requires { IsOfTree update.now }
     ensures leaf { result ≡ first_of update.now }
@@ -110,8 +110,8 @@ fn first_leaf(update: &Update) -> u32
     }
 }
 
-// Where each block on the path to a leaf of a live tree is, indexed by level; None at each level where there is no file system of this name. It
-// costs the logarithm of the number of file systems, and the path.
+/// Where each block on the path to a leaf of a live tree is, indexed by level; None at each level where there is no file system of this name. It
+/// costs the logarithm of the number of file systems, and the path.
 fn path_in(table: &Table, name: &DsName, leaf: u32, meter: &mut Meter) -> [Option<Root>; 6]
     requires { leaf < 1048576 }
     ensures path { IsPathOf (live_of table.now.file_systems name.now) leaf (block_on result) }
@@ -123,7 +123,7 @@ fn path_in(table: &Table, name: &DsName, leaf: u32, meter: &mut Meter) -> [Optio
     }
 }
 
-// Whether an update punches a block that wasn't there.
+/// Whether an update punches a block that wasn't there.
 fn is_missing(before: &[Option<Root>; 6], update: &Update) -> bool
     requires { IsOfTree update.now }
     ensures missing { IsTrue result → IsMissing before.now update.now }
@@ -135,8 +135,8 @@ fn is_missing(before: &[Option<Root>; 6], update: &Update) -> bool
     }
 }
 
-// The bytes that an update writes; zeros where it punches.
-fn bytes_of<'a>(update: &Update<'a>) -> Contents<'a>
+/// The bytes that an update writes; zeros where it punches.
+fn contents_of<'a>(update: &Update<'a>) -> Contents<'a>
     ensures written { IsWritten update.now result }
     ensures size { length result ≡ 512 }
 {
@@ -146,7 +146,7 @@ fn bytes_of<'a>(update: &Update<'a>) -> Contents<'a>
     }
 }
 
-// Sets the path to the new blocks of a group, each at its level; each level without a new block becomes None. It costs the number of new blocks.
+/// Sets the path to the new blocks of a group, each at its level; each level without a new block becomes None. It costs the number of new blocks.
 fn place(path: &mut [Option<Root>; 6], made: &[NewBlock], group: Group)
     ensures { ArePlaced group.0 made.now (block_on path.new) }
 {
@@ -181,7 +181,7 @@ pub fn writes_after<'a>(
     place(&mut path.after, made, group);
     Writes::OnPath {
         path,
-        bytes: bytes_of(update),
+        bytes: contents_of(update),
     }
 }
 
