@@ -43,7 +43,8 @@ same_bytes old new k c same = at (k.level == 0) refl
         (same_places (λ i. option_map block_of (get old (child_key k i))) (λ i. option_map block_of (get new (child_key k i))) 16 0
         (λ i low small. ap (option_map block_of) (sym (same high i small))))
 
-child_below : (k : Key) (i : ℕ) → 0 < k.level → i < 16 → IsTrue (is_at_or_below k (child_key k i))
+-- a child stands below its block
+pub child_below : (k : Key) (i : ℕ) → 0 < k.level → i < 16 → IsTrue (is_at_or_below k (child_key k i))
 child_below k i high small =
     and_from (nat_le (k.level - 1) k.level) _ (le-leb _ _ (omega arith))
     (let one : k.level - (k.level - 1) ≡ 1 = omega arith in

@@ -1,5 +1,5 @@
 -- The roots of all datasets, as they are listed.
-use Rattle.std.proofs.Common.{◌≡◌, ℕ, List, [], ◌∷◌, ◌++◌, Bor, Some, map, refl, ap, ◌∙◌}
+use Rattle.std.proofs.Common.{◌≡◌, ℕ, List, [], ◌∷◌, ◌++◌, Bor, Some, map, refl, ap}
 use Rattle.image.specs.HasBlocks.{root_of}
 use Rattle.model.specs.World.{FileSystem}
 use Rattle.datasets.specs.Dead.{snaps_in}

@@ -6,7 +6,7 @@ use Rattle.std.proofs.Math.Nat.{pow-suc, mul-le-mul_left, mul-le-mul_right, one-
 use Rattle.base.specs.Map.{Block}
 use Rattle.image.specs.ImageWalk.{pointer_in, joined, followed, leaves_of}
 use Rattle.node.proofs.Options.{same_value}
-use Rattle.image.proofs.Options.{no_value}
+use Rattle.world.proofs.lists.Maps.{no_value}
 
 -- what is found at a place of a block whose places have the level l
 abbrev pub found_at : (ℕ → List ℕ) → ℕ → ℕ → ℕ → Block → ℕ → Option (List (ℕ × List ℕ))

@@ -1,6 +1,5 @@
 -- The leaves that are found stand in their order.
-use Rattle.std.proofs.Common.{◌≡◌, ℕ, zero, suc, ◌+◌, ◌*◌, ◌^◌, ◌<◌, ◌≤◌, Bool, true, false, List, [], ◌∷◌, ◌++◌, Option, Some, None, refl, sym, ap, subst, ◌∙◌, arith, T}
-use Rattle.std.specs.Prelude.{◌&&◌}
+use Rattle.std.proofs.Common.{◌≡◌, ℕ, zero, suc, ◌+◌, ◌*◌, ◌^◌, ◌<◌, ◌≤◌, List, [], ◌∷◌, ◌++◌, Option, Some, None, refl, sym, ap, subst, ◌∙◌, arith, T}
 use Rattle.std.specs.List.{range_with_len}
 use Rattle.std.specs.Option.{option_map, option_and_then}
 use Rattle.std.specs.Ordering.{nat_cmp}
@@ -12,7 +11,8 @@ use Rattle.std.proofs.Math.Nat.{pow-suc}
 use Rattle.base.specs.Map.{Block}
 use Rattle.image.specs.ImageWalk.{pointer_in, joined, followed, leaves_of}
 use Rattle.node.proofs.Options.{same_value}
-use Rattle.image.proofs.Options.{no_value}
+use Rattle.world.proofs.lists.Maps.{no_value}
+use Rattle.snapshots.proofs.Sorted.{T_both}
 
 -- rising numbers from one on and below another
 abbrev pub Rises : ℕ → ℕ → List (ℕ × List ℕ) → Type 0
@@ -27,19 +27,15 @@ rises_append : (a b c : ℕ) (xs ys : List (ℕ × List ℕ)) → Rises a b xs �
 rises_append a b c [] ys p q = rises_wider a b c ys p q
 rises_append a b c (x ∷ xs) ys p q = (p.0, rises_append (x.0 + 1) b c xs ys p.1 q)
 
-both : (a b : Bool) → T a → T b → T (a && b)
-both true b p q = q
-both false b p q = p
-
 below_rising : (k low high : ℕ) (xs : List (ℕ × List ℕ)) → k < low → Rises low high xs → T (below_all nat_cmp k xs)
 below_rising k low high [] h r = tt
-below_rising k low high (x ∷ xs) h r = both _ _
+below_rising k low high (x ∷ xs) h r = T_both _ _
     (let l = r.0 in let lt : k < x.0 = omega arith in let e : Less ≡ nat_cmp k x.0 = nat_cmp_is k x.0 Less lt in rw (← e) tt)
     (below_rising k (x.0 + 1) high xs (let l = r.0 in omega arith) r.1)
 
 pub rising_sorted : (low high : ℕ) (xs : List (ℕ × List ℕ)) → Rises low high xs → T (is_sorted nat_cmp xs)
 rising_sorted low high [] r = tt
-rising_sorted low high (x ∷ xs) r = both _ _ (below_rising x.0 (x.0 + 1) high xs (omega arith) r.1) (rising_sorted (x.0 + 1) high xs r.1)
+rising_sorted low high (x ∷ xs) r = T_both _ _ (below_rising x.0 (x.0 + 1) high xs (omega arith) r.1) (rising_sorted (x.0 + 1) high xs r.1)
 
 -- the entries of the map of a sorted list are the list
 pub entries_of_sorted : (xs : List (ℕ × List ℕ)) → T (is_sorted nat_cmp xs) → entries (from_entries {R = nat_cmp} xs) ≡ xs

@@ -1,39 +1,45 @@
+-- Values that may be absent, and bytes that are put in, padded and copied.
 pub mod Options
-pub mod LeafPaths
+pub mod Zeros
 pub mod Pointers
+pub mod Patches
+pub mod PointerWrites
+pub mod Padded
+pub mod Copies
+pub mod Unwritten
+-- What is found from a root on.
+pub mod LeafPaths
 pub mod Found
 pub mod Walked
-pub mod Unwritten
-pub mod AfterChange
-pub mod LeafOrder
-pub mod Patches
-pub mod Copies
-pub mod Padded
-pub mod AfterRewrite
 pub mod Moments
+pub mod LeafOrder
 pub mod Gathering
-pub mod PointerWrites
 pub mod ReadAnswers
+pub mod ReadBack
+-- What an image has after the writes of a change, of many leaves and of one path.
+pub mod AfterChange
+pub mod AfterRewrite
 pub mod Made
 pub mod WritingMade
 pub mod PathHeld
 pub mod PathOpen
 pub mod PathsApart
-pub mod ReadBack
-pub mod Zeros
+-- What one update of a live map changes, and what it leaves to be written.
+pub mod Touching
+pub mod OnePath
+pub mod Standing
+pub mod LiveTrees
+pub mod Placing
+pub mod MadeBlocks
+-- What the image of a pool has, from step to step.
 pub mod Stays
 pub mod StepMaps
 pub mod Drawing
 pub mod Written
 pub mod Opening
 pub mod Walking
-pub mod Touching
-pub mod Standing
-pub mod OnePath
-pub mod Placing
-pub mod MadeBlocks
 pub mod LiveChange
-pub mod LiveTrees
+pub mod StepMade
+-- The roots of datasets.
 pub mod AllRoots
 pub mod Rooted
-pub mod StepMade

@@ -11,7 +11,7 @@ use Rattle.tree.specs.declared.block.Root.{Root}
 use Rattle.image.specs.ImageBlocks.{block_at, root_block, maybe_block}
 use Rattle.image.specs.ImageWalk.{leaves_of, walk}
 use Rattle.node.proofs.Options.{same_value}
-use Rattle.image.proofs.Options.{no_value}
+use Rattle.world.proofs.lists.Maps.{no_value}
 use Rattle.image.proofs.Gathering.{behind}
 use Rattle.image.proofs.LeafOrder.{entries_of_sorted, in_order}
 

@@ -1,5 +1,5 @@
 -- Whether what an update punches is there, by the path before it.
-use Rattle.std.proofs.Common.{◌≡◌, ◌≤◌, false, List, [], ◌∷◌, Option, None, Some, refl, sym, ap, ◌∙◌, true≢false}
+use Rattle.std.proofs.Common.{◌≡◌, ◌≤◌, List, [], ◌∷◌, Option, None, Some, refl, sym, ap, ◌∙◌}
 use Rattle.std.specs.Prelude.{is_some, slice_index_or}
 use Rattle.std.specs.Option.{option_map}
 use Rattle.std.specs.FinMap.{get}
@@ -16,6 +16,7 @@ use Rattle.tree.specs.declared.block.Root.{Root}
 use Rattle.image.specs.PathWrites.{block_on}
 use Rattle.image.specs.Updates.{ChangesSome}
 use Rattle.image.specs.Writes.{IsPathOf, IsThere}
+use Rattle.datasets.proofs.Rows.{none_from}
 use Rattle.image.proofs.Touching.{top_covers}
 
 -- the key of a punch stands on the path to its first leaf
@@ -31,13 +32,9 @@ some_either f g None (Some y) e = absurd cc
 some_either f g (Some x) None e = absurd cc
 some_either f g (Some x) (Some y) e = refl
 
-none_of : {A : Type 0} (x : Option A) → is_some x ≡ false → x ≡ None
-none_of None e = refl
-none_of (Some x) e = absurd (true≢false e)
-
 pub there_some : (m : Map) (path : List (Option Root)) (u : Update) → IsBatch (u ∷ []) → IsPathOf m (first_of u) (block_on path) → IsThere path u → ChangesSome m u
 there_some m path (Write leaf bytes) b is there = tt
 there_some m path (Punch key) b is there = sym (some_either root_block block_of (slice_index_or path key.level None) (get m key) (on_path m path key b.1.level is)) ∙ there
 
 pub missing_none : (m : Map) (path : List (Option Root)) (key : Key) → IsBatch (Punch key ∷ []) → IsPathOf m (first_leaf key) (block_on path) → slice_index_or path key.level None ≡ None → get m key ≡ None
-missing_none m path key b is none = none_of (get m key) (sym (some_either root_block block_of (slice_index_or path key.level None) (get m key) (on_path m path key b.1.level is)) ∙ ap is_some none)
+missing_none m path key b is none = none_from (get m key) (sym (some_either root_block block_of (slice_index_or path key.level None) (get m key) (on_path m path key b.1.level is)) ∙ ap is_some none)

@@ -1,7 +1,6 @@
 -- What one update of a tree touches: what is at or below its key, and above it.
-use Rattle.std.proofs.Common.{◌≡◌, ℕ, zero, suc, ◌+◌, ◌-◌, ◌/◌, ◌^◌, ◌<◌, ◌≤◌, Bool, Bor, true, false, cond, ◌&&◌, ◌||◌, List, [], ◌∷◌, Option, Some, None, refl, sym, ap, subst, ◌∙◌, ◌⊎◌, inl, inr, ⊎_elim, arith, true≢false}
+use Rattle.std.proofs.Common.{◌≡◌, ℕ, zero, suc, ◌+◌, ◌-◌, ◌/◌, ◌^◌, ◌≤◌, Bool, Bor, true, false, cond, ◌&&◌, ◌||◌, List, [], ◌∷◌, Option, Some, None, refl, sym, ap, subst, ◌∙◌, ◌⊎◌, inl, inr, ⊎_elim, arith, true≢false}
 use Rattle.std.specs.Prelude.{◌==◌, IsSome, is_some, unwrap_or}
-use Rattle.std.specs.Option.{option_map}
 use Rattle.std.specs.List.{list_any}
 use Rattle.std.specs.Ordering.{nat_cmp, eq_by_cmp, is_eq}
 use Rattle.std.specs.Cmp.{nat_cmp_total, Equal-is, tied_itself}
@@ -23,6 +22,8 @@ use Rattle.batch.specs.declared.update.Update.TheVariants.{Write, Punch}
 use Rattle.batch.proofs.Words.{said_bytes, said_hole, written_at, punched_at, leaf_after, leaf_left}
 use Rattle.image.proofs.LeafPaths.{above_leaf}
 use Rattle.node.specs.Entries.{key_at}
+use Rattle.node.proofs.Options.{some_mapped}
+use Rattle.node.proofs.Order.{span_positive}
 use Rattle.tree.specs.Reading.{key_over}
 use Rattle.world.proofs.lists.Maps.{same_value, no_value}
 use Rattle.image.specs.Updates.{top_of, ChangesSome}
@@ -49,12 +50,8 @@ there_key m x some =
     let r = any_one (eq_by_cmp nat_cmp x) (keys m) (sym (contains_key-keys m x) ∙ some) in
     subst (IsIn (keys m)) (sym (nat_cmp-IsAntisymmetric x r.0 ((Equal-is (nat_cmp x r.0)).0 r.2))) r.1
 
-some_map : {A B : Type 0} (f : A → B) (o : Option A) → is_some (option_map f o) ≡ is_some o
-some_map f None = refl
-some_map f (Some x) = refl
-
 contents_there : (m : Map) (x : ℕ) → is_some (get (contents m) x) ≡ is_some (get m (leaf_key x))
-contents_there m x = ap is_some (get-contents m x) ∙ some_map (λ (c : Cell). c.bytes) (get m (leaf_key x))
+contents_there m x = ap is_some (get-contents m x) ∙ some_mapped (λ (c : Cell). c.bytes) (get m (leaf_key x))
 
 -- ---- leaves below keys
 
@@ -105,11 +102,7 @@ touched_by_punch m c k x p some e = or_right (list_any (covers k) (keys c.writes
 
 pub top_covers : (u : Update) → covers (top_of u) (first_of u) ≡ true
 top_covers (Write leaf bytes) = eq-eqb _ _ (div-one leaf)
-top_covers (Punch key) = eq-eqb _ _ (mul-div_cancel key.index (power_positive key.level))
-  where
-    power_positive : (l : ℕ) → 0 < 16 ^ l
-    power_positive zero = omega arith
-    power_positive (suc l) = let e = pow-suc 16 l in let p = power_positive l in omega (arith, e, p)
+top_covers (Punch key) = eq-eqb _ _ (mul-div_cancel key.index (span_positive key.level))
 
 write_said : (leaf x : ℕ) (bytes : List ℕ) (b : Bool) → (leaf == x) ≡ b → IsSome (said_bytes (first_said (cond b (full bytes) silent) silent)) → covers (leaf_key leaf) x ≡ true
 write_said leaf x bytes true e some = eq-eqb _ _ (div-one x ∙ sym (eqb-true leaf x e))

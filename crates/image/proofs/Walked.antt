@@ -14,7 +14,8 @@ use Rattle.base.proofs.Contents.{leaf_key, get-contents}
 use Rattle.image.specs.ImageWalk.{leaves_of, walk}
 use Rattle.image.specs.HasBlocks.{HasBlocks, IsWritable, root_key, root_of}
 use Rattle.node.proofs.Options.{same_value, not_some}
-use Rattle.image.proofs.Options.{no_value, is_there}
+use Rattle.world.proofs.lists.Maps.{no_value}
+use Rattle.image.proofs.Options.{is_there}
 use Rattle.image.proofs.LeafPaths.{leaf_small, root_above}
 use Rattle.image.proofs.Found.{AreRight, found, within}
 

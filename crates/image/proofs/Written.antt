@@ -1,6 +1,6 @@
 -- One map becomes another, and its new blocks are written.
 use Rattle.std.proofs.Common.{◌≡◌, ◌≤◌, ℕ, Bool, true, false, List, Some, refl, sym, ap, subst, ◌∙◌, ◌⊎◌, ⊎_elim, arith}
-use Rattle.std.specs.Prelude.{IsTrue, nat_le, ◌/◌, ◌^◌, ◌-◌, ◌+◌, ◌*◌, ◌<◌}
+use Rattle.std.specs.Prelude.{IsTrue, nat_le, ◌/◌, ◌^◌, ◌-◌, ◌+◌}
 use Rattle.std.specs.FinMap.{get}
 use Rattle.std.proofs.lemmas.Bool.{and_from, le-leb, eq-eqb}
 use Rattle.base.specs.declared.number.Key.{Key}
@@ -14,7 +14,7 @@ use Rattle.tree.specs.Branch.{child_key}
 use Rattle.world.specs.Worlds.{AreCellsOne}
 use Rattle.image.specs.HasBlocks.{HasBlocks, AreBirthsRising}
 use Rattle.image.specs.ImageBlocks.{bytes_of}
-use Rattle.image.proofs.AfterChange.{same_bytes}
+use Rattle.image.proofs.AfterChange.{same_bytes, child_below}
 use Rattle.image.specs.Stored.{AreStored, AreDrawnBeside}
 use Rattle.image.proofs.Drawing.{empty_has, empty_rises}
 
@@ -22,11 +22,6 @@ pub below_parent : (k : Key) → IsTrue (is_at_or_below (parent k) k)
 below_parent k =
     let one : (k.level + 1) - k.level ≡ 1 = omega arith in
     and_from (nat_le k.level (k.level + 1)) _ (le-leb k.level (k.level + 1) (omega arith)) (eq-eqb _ _ (ap (λ d. k.index / 16 ^ d) one ∙ omega arith))
-
-child_below : (k : Key) (i : ℕ) → 0 < k.level → i < 16 → IsTrue (is_at_or_below k (child_key k i))
-child_below k i high small =
-    let one : k.level - (k.level - 1) ≡ 1 = omega arith in
-    and_from (nat_le (k.level - 1) k.level) _ (le-leb _ _ (omega arith)) (eq-eqb _ _ (ap (λ d. (16 * k.index + i) / 16 ^ d) one ∙ omega arith))
 
 -- one block has the same bytes in two maps
 pub one_bytes : (m n : Map) (j k : Key) (a b : Cell) → IsOneBlock m n j k a b → bytes_of n k b ≡ bytes_of m j a

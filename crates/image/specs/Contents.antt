@@ -6,5 +6,5 @@ use Rattle.image.specs.declared.contents.Held.TheVariants.{Lent, Own, Zeros}
 -- they are lent, or a copy, or zeros (profile)
 abbrev pub held_bytes : Held → List ℕ
 held_bytes (Lent bytes) = bytes.now
-held_bytes (Own bytes) = bytes
+held_bytes (Own bytes) = bytes.value
 held_bytes Zeros = replicate 512 0

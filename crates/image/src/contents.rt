@@ -1,11 +1,8 @@
 //! The bytes of a leaf to write.
-ghost use Rattle.std.specs.Prelude.{◌≡◌, IfOk, IfErr, length, replicate};
-ghost use Rattle.base.specs.declared.refusal.Refusal.{Refusal};
+ghost use Rattle.std.specs.Prelude.{◌≡◌, IfOk, length, replicate};
 
 use crate::block_bytes::ZEROS;
-use base::data::Data;
-use base::refusal::Refusal;
-use std::alloc::Global;
+use std::alloc::{AllocError, Global};
 use std::marker::Model;
 
 /// The bytes of a leaf: lent by the caller that asks to write them, or a copy of them, or the zeros of a leaf that isn't there. Contracts see
@@ -15,11 +12,11 @@ pub struct Contents<'a> {
     held: Held<'a>,
 }
 
-// Who holds the bytes.
+/// Who holds the bytes.
 #[derive(Drop)]
 enum Held<'a> {
     Lent(&'a [u8; 512]),
-    Own(Data),
+    Own(Box<[u8; 512]>),
     Zeros,
 }
 
@@ -56,18 +53,17 @@ impl<'a> Contents<'a> {
     {
         match &self.held {
             Held::Lent(bytes) => *bytes,
-            Held::Own(bytes) => bytes.as_array(),
+            Held::Own(bytes) => bytes.as_ref(),
             Held::Zeros => &ZEROS,
         }
     }
 
-    /// The same bytes; those that are lent are copied. NoMemory where the copy can't be allocated.
-    pub(crate) fn owned(self, alloc: Global) -> Result<Contents<'static>, Refusal>
-        ensures ok { IfOk result (λ c. c ≡ self.entry) }
-        ensures err { IfErr result (λ e. e ≡ Refusal.NoMemory) }
+    /// The same bytes; those that are lent are copied. AllocError where memory is refused for the copy.
+    pub(crate) fn owned(self, alloc: Global) -> Result<Contents<'static>, AllocError>
+        ensures { IfOk result (λ c. c ≡ self.entry) }
     {
         let held = match self.held {
-            Held::Lent(bytes) => Held::Own(Data::new(alloc, bytes)?),
+            Held::Lent(bytes) => Held::Own(Box::new(alloc, *bytes)?),
             Held::Own(bytes) => Held::Own(bytes),
             Held::Zeros => Held::Zeros,
         };

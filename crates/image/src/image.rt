@@ -15,7 +15,7 @@ use crate::block_bytes::{put_block, put_copy, put_pointer};
 use crate::walk::{Leaves, gather};
 use base::number::BlockNo;
 use base::refusal::Refusal;
-use std::alloc::Global;
+use std::alloc::{AllocError, Global};
 use std::marker::Model;
 use std::mem;
 use tree::{Block, Root};
@@ -62,15 +62,16 @@ impl Model for Image {
 }
 
 impl Image {
-    /// An image of `n` blocks, at most `MOST_BLOCKS`, all zero, with no block protected. NoMemory where the room was refused. Constant time: it
-    /// reserves the room, and writes nothing to it.
-    pub fn new(alloc: Global, n: u32) -> Result<Image, Refusal>
+    /// An image of `n` blocks, at most `MOST_BLOCKS`, all zero, with no block protected. AllocError where memory is refused for the room or the
+    /// map. Constant time: it reserves the room, and writes nothing to it.
+    pub fn new(alloc: Global, n: u32) -> Result<Image, AllocError>
         requires { n ≤ MOST_BLOCKS }
-        ensures ok { IfOk result (λ i. i ≡ record { bytes = replicate (512 * n) 0; kept = replicate n Free; keeps = 0 }) }
-        ensures no_memory { IfErr result (λ r. r ≡ Refusal.NoMemory) }
+        ensures { IfOk result (λ i. i ≡ record { bytes = replicate (512 * n) 0; kept = replicate n Free; keeps = 0 }) }
     {
         let written = Vec::with_capacity(alloc, BLOCK_SIZE * n as usize)?;
-        let kept = Allocator::new(alloc, n)?;
+        let Ok(kept) = Allocator::new(alloc, n) else {
+            return Err(AllocError);
+        };
         Ok(Image {
             written,
             blocks: n,

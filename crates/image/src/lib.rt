@@ -14,6 +14,10 @@
 //!
 //! The bytes are private to the module `image`, where only `write`, `point` and `copy_block` change them. Each changes the bytes of a single
 //! number, which must not be protected, as `Image` says. Functions that write more, such as `write_all` and `write_path`, call these.
+//!
+//! What a change of a live map writes is told as [`Writes`], and [`write_down`] writes it. For one update that is the path to its leaf: where its
+//! blocks were before the update ([`ChangedPath::begin`]), and where they are after it ([`writes_after`]). For a change of many leaves it is each
+//! new block ([`blocks_in`]). [`roots_of`] lists where each dataset begins, and [`Image::read_tree`] reads a dataset from its root.
 #![tactic(auto)]
 
 mod block_bytes;

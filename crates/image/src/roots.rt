@@ -1,16 +1,14 @@
 //! The roots of datasets in the image.
-ghost use Rattle.std.specs.Prelude.{◌≡◌, ◌≤◌, ◌++◌, IfOk, IfErr, OnOk, map};
+ghost use Rattle.std.specs.Prelude.{◌≡◌, ◌≤◌, ◌++◌, IfOk, OnOk, map};
 ghost use Rattle.std.specs.Option.{option_copied};
-ghost use Rattle.base.specs.declared.refusal.Refusal.{Refusal};
 ghost use Rattle.datasets.specs.Rows.{entry_of};
 ghost use Rattle.image.specs.HasBlocks.{root_of};
 ghost use Rattle.image.specs.Roots.{shown_root, own_roots, snapshot_roots, roots_in};
 
 use base::meter::Meter;
 use base::name::{Component, DsName};
-use base::refusal::Refusal;
 use datasets::{FileSystem, Table};
-use std::alloc::Global;
+use std::alloc::{AllocError, Global};
 use tree::{Root, Tree};
 
 /// Where the topmost block of a dataset is.
@@ -23,15 +21,14 @@ pub struct DatasetRoot {
     pub root: Option<Root>,
 }
 
-// The root of a tree, with copies of the names. NoMemory where the names can't be copied.
+/// The root of a tree, with copies of the names. AllocError where memory is refused for these.
 fn root_at(
     file_system: &DsName,
     snapshot: Option<&Component>,
     tree: &Tree,
     meter: &mut Meter,
-) -> Result<DatasetRoot, Refusal>
+) -> Result<DatasetRoot, AllocError>
     ensures ok { IfOk result (λ r. shown_root r ≡ record { file_system = file_system.now; snapshot = option_copied snapshot.entry; root = root_of tree.now }) }
-    ensures err { IfErr result (λ e. e ≡ Refusal.NoMemory) }
     ensures never_lower { meter.old ≤ meter.new }
 {
     let snapshot = match snapshot {
@@ -45,14 +42,13 @@ fn root_at(
     })
 }
 
-// Adds the roots of a file system's snapshots.
+/// Adds the roots of a file system's snapshots. AllocError where memory is refused; then some may have been added.
 fn push_snapshots(
     roots: &mut Vec<DatasetRoot>,
     file_system: &FileSystem,
     meter: &mut Meter,
-) -> Result<(), Refusal>
+) -> Result<(), AllocError>
     ensures ok { OnOk result (map shown_root roots.new.items ≡ map shown_root roots.old.items ++ snapshot_roots (entry_of file_system.now)) }
-    ensures err { IfErr result (λ e. e ≡ Refusal.NoMemory) }
     ensures never_lower { meter.old ≤ meter.new }
 {
     let name = file_system.name();
@@ -63,14 +59,13 @@ fn push_snapshots(
     Ok(())
 }
 
-// Adds the root of a file system's live tree, and those of its snapshots.
+/// Adds the root of a file system's live tree, and those of its snapshots. AllocError where memory is refused; then some may have been added.
 fn push_roots(
     roots: &mut Vec<DatasetRoot>,
     file_system: &FileSystem,
     meter: &mut Meter,
-) -> Result<(), Refusal>
+) -> Result<(), AllocError>
     ensures ok { OnOk result (map shown_root roots.new.items ≡ map shown_root roots.old.items ++ own_roots (entry_of file_system.now)) }
-    ensures err { IfErr result (λ e. e ≡ Refusal.NoMemory) }
     ensures never_lower { meter.old ≤ meter.new }
 {
     let live = root_at(file_system.name(), None, file_system.live(), meter)?;
@@ -79,15 +74,14 @@ fn push_roots(
 }
 
 /// The roots of a table's datasets. The file systems come in byte order of their names; for each, the root of its live tree comes first, then
-/// those of its snapshots, the oldest first. NoMemory where the roots or their names can't be allocated. It costs the names,
-/// and a node for each dataset.
+/// those of its snapshots, the oldest first. AllocError where memory is refused for the roots or their names. It costs the names, and a node for
+/// each dataset.
 pub fn roots_of(
     alloc: Global,
     table: &Table,
     meter: &mut Meter,
-) -> Result<Vec<DatasetRoot>, Refusal>
+) -> Result<Vec<DatasetRoot>, AllocError>
     ensures ok { IfOk result (λ roots. map shown_root roots.items ≡ roots_in table.now.file_systems) }
-    ensures err { IfErr result (λ e. e ≡ Refusal.NoMemory) }
     ensures never_lower { meter.old ≤ meter.new }
 {
     let mut roots = Vec::new(alloc);

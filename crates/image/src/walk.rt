@@ -72,17 +72,9 @@ fn pointer_at(
     Err(Refusal::BadStream)
 }
 
-/// Adds a leaf.
-fn push_leaf(out: &mut Leaves, index: u32, leaf: [u8; 512]) -> Result<(), Refusal>
-    ensures ok { OnOk result (out.new.items ≡ out.old.items ++ (index, leaf) ∷ []) }
-    ensures err { IfErr result (λ e. e ≡ Refusal.NoMemory) }
-{
-    out.push((index, leaf))?;
-    Ok(())
-}
-
 /// Adds to `out` the leaves at and below the block `top`, which has this level and this index on the level. The image has `count` blocks, and
-/// `written` are the bytes written so far. BadStream where a pointer breaks the rules; then some of the leaves may have been added.
+/// `written` are the bytes written so far. BadStream where a pointer breaks the rules, NoMemory where memory is refused; then some of the leaves
+/// may have been added.
 pub(crate) fn gather(
     written: &[u8],
     count: u32,
@@ -102,7 +94,8 @@ pub(crate) fn gather(
 {
     let block = block_of(written, count, top.block);
     if level == 0 {
-        return push_leaf(out, index, block);
+        out.push((index, block))?;
+        return Ok(());
     }
     for place in 0..16u32 {
         let pointer = match pointer_at(&block, place as usize, count, level - 1, top.birth) {

@@ -1,6 +1,5 @@
 //! What a change of a live map writes into the image.
-ghost use Rattle.std.specs.Prelude.{◌≡◌, ◌≤◌, ◌<◌, IsTrue, IfOk, IfErr, length, map};
-ghost use Rattle.base.specs.declared.refusal.Refusal.{Refusal};
+ghost use Rattle.std.specs.Prelude.{◌≡◌, ◌≤◌, ◌<◌, IsTrue, IfOk, length, map};
 ghost use Rattle.batch.specs.Updates.{first_of, IsOfTree};
 ghost use Rattle.datasets.specs.Rows.{live_of};
 ghost use Rattle.image.specs.BlockWrites.{images_put, writes_of, written_pair};
@@ -16,10 +15,9 @@ use crate::new_blocks::blocks_of;
 use base::meter::Meter;
 use base::name::DsName;
 use base::number::{BlockNo, Group};
-use base::refusal::Refusal;
 use datasets::Table;
 use node::span;
-use std::alloc::Global;
+use std::alloc::{AllocError, Global};
 use tree::{NewBlock, Root, Update};
 
 /// The path to a leaf that one update changes: where each of its blocks is before and after the update, indexed by level.
@@ -71,10 +69,9 @@ pub enum Writes<'a> {
 }
 
 impl<'a> Writes<'a> {
-    /// The same writes; bytes that are lent are copied. NoMemory where the copy can't be allocated.
-    pub fn owned(self, alloc: Global) -> Result<Writes<'static>, Refusal>
-        ensures ok { IfOk result (λ w. w ≡ self.entry) }
-        ensures err { IfErr result (λ e. e ≡ Refusal.NoMemory) }
+    /// The same writes; bytes that are lent are copied. AllocError where memory is refused for the copy.
+    pub fn owned(self, alloc: Global) -> Result<Writes<'static>, AllocError>
+        ensures { IfOk result (λ w. w ≡ self.entry) }
     {
         match self {
             Writes::Idle => Ok(Writes::Idle),
@@ -101,7 +98,7 @@ pub fn write_down(image: &mut Image, writes: &Writes<'_>)
     }
 }
 
-// The first leaf that an update changes. Constant time.
+/// The first leaf that an update changes. Constant time.
 fn first_leaf(update: &Update) -> u32
     requires { IsOfTree update.now }
     ensures leaf { result ≡ first_of update.now }
@@ -113,8 +110,8 @@ fn first_leaf(update: &Update) -> u32
     }
 }
 
-// Where each block on the path to a leaf of a live tree is, indexed by level; None at each level where there is no file system of this name. It
-// costs the logarithm of the number of file systems, and the path.
+/// Where each block on the path to a leaf of a live tree is, indexed by level; None at each level where there is no file system of this name. It
+/// costs the logarithm of the number of file systems, and the path.
 fn path_in(table: &Table, name: &DsName, leaf: u32, meter: &mut Meter) -> [Option<Root>; 6]
     requires { leaf < 1048576 }
     ensures path { IsPathOf (live_of table.now.file_systems name.now) leaf (block_on result) }
@@ -126,7 +123,7 @@ fn path_in(table: &Table, name: &DsName, leaf: u32, meter: &mut Meter) -> [Optio
     }
 }
 
-// Whether an update punches a block that wasn't there.
+/// Whether an update punches a block that wasn't there.
 fn is_missing(before: &[Option<Root>; 6], update: &Update) -> bool
     requires { IsOfTree update.now }
     ensures missing { IsTrue result → IsMissing before.now update.now }
@@ -138,8 +135,8 @@ fn is_missing(before: &[Option<Root>; 6], update: &Update) -> bool
     }
 }
 
-// The bytes that an update writes; zeros where it punches.
-fn bytes_of<'a>(update: &Update<'a>) -> Contents<'a>
+/// The bytes that an update writes; zeros where it punches.
+fn contents_of<'a>(update: &Update<'a>) -> Contents<'a>
     ensures written { IsWritten update.now result }
     ensures size { length result ≡ 512 }
 {
@@ -149,7 +146,7 @@ fn bytes_of<'a>(update: &Update<'a>) -> Contents<'a>
     }
 }
 
-// Sets the path to the new blocks of a group, each at its level; each level without a new block becomes None. It costs the number of new blocks.
+/// Sets the path to the new blocks of a group, each at its level; each level without a new block becomes None. It costs the number of new blocks.
 fn place(path: &mut [Option<Root>; 6], made: &[NewBlock], group: Group)
     ensures { ArePlaced group.0 made.now (block_on path.new) }
 {
@@ -184,21 +181,20 @@ pub fn writes_after<'a>(
     place(&mut path.after, made, group);
     Writes::OnPath {
         path,
-        bytes: bytes_of(update),
+        bytes: contents_of(update),
     }
 }
 
-/// The new blocks of a live tree, each with its number and the bytes to write. NoMemory where they can't be allocated. It takes 516 bytes a
-/// block, and costs the logarithm of the number of file systems, and for each block the nodes from the root down.
+/// The new blocks of a live tree, each with its number and the bytes to write. AllocError where memory is refused for them. It takes 516 bytes
+/// a block, and costs the logarithm of the number of file systems, and for each block the nodes from the root down.
 pub fn blocks_in(
     alloc: Global,
     table: &Table,
     name: &DsName,
     made: &[NewBlock],
     meter: &mut Meter,
-) -> Result<Vec<(BlockNo, [u8; 512])>, Refusal>
+) -> Result<Vec<(BlockNo, [u8; 512])>, AllocError>
     ensures ok { ArePresent (live_of table.now.file_systems name.now) made.now → IfOk result (λ v. map written_pair v.items ≡ writes_of (live_of table.now.file_systems name.now) (map made_pair made.now)) }
-    ensures err { IfErr result (λ e. e ≡ Refusal.NoMemory) }
     ensures never_lower { meter.old ≤ meter.new }
 {
     match table.find(name) {

@@ -431,9 +431,9 @@ impl Pool {
     {
         let mut meter = Meter::new(Toll::new());
         if last {
-            return roots_of(alloc, &self.keep.last.table, &mut meter);
+            return Ok(roots_of(alloc, &self.keep.last.table, &mut meter)?);
         }
-        roots_of(alloc, &self.present.table, &mut meter)
+        Ok(roots_of(alloc, &self.present.table, &mut meter)?)
     }
 
     /// Does one step for each request, in order, and returns the replies. For requests that follow in the list it reads ahead. NoMemory where the

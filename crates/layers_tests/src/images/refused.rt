@@ -22,9 +22,8 @@ fn read_or_refused(bytes: Vec<u8>) -> bool {
 
 /// Whether a path is written and walked, and its bytes are read, or memory was refused.
 fn is_done_or_refused(alloc: Global) -> bool {
-    let mut image = match Image::new(alloc, 1000) {
-        Ok(image) => image,
-        Err(refusal) => return refusal == Refusal::NoMemory,
+    let Ok(mut image) = Image::new(alloc, 1000) else {
+        return true;
     };
     let fine = put_steps(&mut image, 0, 1, 0x61, 6) && walked_or_refused(&image);
     match Vec::from_slice(alloc, image.bytes()) {

@@ -19,7 +19,7 @@ returns c n old new tree has was =
     let known = path_known n old new tree u batch c.args.group.0 has.number has.new_is (there_some old c.args.path.value.before u batch was there) c.args.made.now has.each (block_on c.place.new.path) c.place.ensures in
     let same = c.deref_mut.ensures.value in
     let begun = ap (λ (p : ChangedPath). p.leaf) same ∙ c.requires.begun in (
-      (begun, c.bytes_of.ensures.written, c.bytes_of.ensures.size),
+      (begun, c.contents_of.ensures.written, c.contents_of.ensures.size),
       ap (λ (p : ChangedPath). p.before) same,
       subst (λ leaf. IsPathOf new leaf (block_on c.place.new.path)) (sym begun) known,
       there,
