@@ -1,7 +1,8 @@
 #!/usr/bin/env python3
-"""Refuses each request for memory of a program in turn, and looks at what it answers.
+"""Refuses each request for memory of a program in turn, and looks at what it answers; and counts what lines ask for.
 
     python3 bench/refused.py --gate
+    python3 bench/refused.py --steady [ZFSP]
     python3 bench/refused.py ZFSP SCRIPT [--blocks N]
     python3 bench/refused.py TESTS TEST
 
@@ -11,9 +12,14 @@ replies; or one line is answered NoMemory, and all else, the questions too, is a
 as if nothing was refused: snapshots do without an index by name, and chunks stay small that could have become one. A test of a crate's built
 tests (`out/NAME_tests`) passes each time, or has no memory for what it begins with, and says so.
 
-With --gate each script of bench/refused.txt is run so over crates/zfsp/out/zfsp, from the first request for memory until none is refused,
-and each test with `memory` in its name, as `rt ci` has left them. It prints how many requests were refused. Anything else than the above is
-printed, and the exit status is 1; so is a script of which no line was refused. The C compiler is the toolchain's own.
+With --steady nothing is refused. The lines of STEADY are asked over and over, and the requests for memory of a round are counted once the pool is
+warm: crates/zfsp/out/zfsp's where no ZFSP is named. A count other than that of STEADY is printed, and the exit status is 1: of more requests the
+reason is to be found, and fewer are to be written into STEADY.
+
+With --gate the lines of STEADY are counted. Then each script of bench/refused.txt is run with requests refused over crates/zfsp/out/zfsp, from the
+first request for memory until none is refused, and each test with `memory` in its name, as `rt ci` has left them. It prints how many requests were
+refused. Anything else than the above is printed, and the exit status is 1; so is a script of which no line was refused. The C compiler is the
+toolchain's own.
 """
 
 import argparse
@@ -27,8 +33,18 @@ from collections import Counter
 from concurrent.futures import ThreadPoolExecutor
 from pathlib import Path
 
+# How many requests for memory a round of lines makes once the pool is warm: lines between semicolons, about blocks that are there.
+STEADY = {
+    "write p/a 0 3 62": 1,
+    "write p/a 0 3 62; sync": 10,
+    "punch p/a 0 3; write p/a 0 3 62": 10,
+    "read p/a 0 3": 0,
+}
+# What comes before the rounds, and how many rounds warm the pool up and how many are counted.
+BEFORE = ["create p/a", *(f"write p/a 0 {block} 61" for block in range(10)), "sync"]
+WARMING, COUNTED = 20, 1000
 ROOT = Path(__file__).resolve().parent.parent
-CASES = ROOT / "bench" / "refused.txt"
+CASES, ZFSP = ROOT / "bench" / "refused.txt", ROOT / "crates" / "zfsp" / "out" / "zfsp"
 REFUSED = b"error 25 NoMemory"
 FINE = ("refused", "fault", "missed by none", "passed", "unprepared")
 TEST = re.compile(r"#\[test\]\s*fn (\w*memory\w*)\(")
@@ -163,9 +179,35 @@ def filled(machine, lines):
     return done
 
 
+def zfsp_of(shim, program, blocks=1000):
+    """A zfsp over a pool of so many blocks."""
+    return Machine(shim, [program, str(blocks), "1"])
+
+
+def fault_of(lines, told, seen):
+    """What is wrong with the requests of a round, None if nothing is."""
+    if seen == told:
+        return None
+    more, advice = ("more", "find out why") if seen > told else ("fewer", f"write {seen:g} into STEADY")
+    return f"`{lines}` makes {more} requests for memory than are told: {seen:g} a round, told {told}; {advice}"
+
+
+def steady(machine):
+    """Counts the requests for memory of the lines of STEADY; whether one count is other than is told, which is printed. Looking at the lines ahead
+    makes a request in some 256 lines, so a round's count is one to a tenth."""
+    faults = []
+    for lines, told in STEADY.items():
+        warm, counted = ([*BEFORE, *(lines.split("; ") * rounds)] for rounds in (WARMING, WARMING + COUNTED))
+        asked = machine.asks(list(map(str.encode, counted))) - machine.asks(list(map(str.encode, warm)))
+        faults.append(fault_of(lines, told, round(asked / COUNTED, 1)))
+    print("".join(f"steady: {it}\n" for it in faults if it), end="")
+    print(f"steady: {faults.count(None)} of {len(faults)} rounds of lines make as many requests for memory as are told")
+    return any(faults)
+
+
 def cases(shim):
     """The names of what the gate runs, with what makes each."""
-    zfsp = Machine(shim, [ROOT / "crates" / "zfsp" / "out" / "zfsp", "1000", "1"])
+    zfsp = zfsp_of(shim, ZFSP)
     for line in CASES.read_text().splitlines():
         if line and not line.startswith("#"):
             name, _, lines = line.partition(": ")
@@ -199,21 +241,27 @@ def subjects(words, shim):
     if "::" in words.subject:
         return [(words.subject, lambda: Test(Machine(shim, [program, words.subject])))]
     lines = [line for line in Path(words.subject).read_bytes().splitlines() if line and not line.startswith(b"#")]
-    return [(words.subject, lambda: Script(Machine(shim, [program, str(words.blocks), "1"]), lines))]
+    return [(words.subject, lambda: Script(zfsp_of(shim, program, words.blocks), lines))]
 
 
 def main():
     parser = argparse.ArgumentParser(description=__doc__, formatter_class=argparse.RawDescriptionHelpFormatter)
     parser.add_argument("--gate", action="store_true")
+    parser.add_argument("--steady", action="store_true")
     parser.add_argument("program", type=Path, nargs="?")
     parser.add_argument("subject", nargs="?", help="a script's file, or a test's name")
     parser.add_argument("--blocks", type=int, default=1000)
     words = parser.parse_args()
-    if not words.gate and not words.subject:
-        parser.error("a program and a subject, or --gate")
+    if not words.gate and not words.steady and not words.subject:
+        parser.error("a program and a subject, --steady, or --gate")
     total, wrong, done = Counter(), False, 0
     with tempfile.TemporaryDirectory() as folder, ThreadPoolExecutor(os.cpu_count()) as workers:
-        for name, made in subjects(words, compiled(Path(folder))):
+        shim = compiled(Path(folder))
+        if words.gate or words.steady:
+            wrong = steady(zfsp_of(shim, words.program.resolve() if words.program else ZFSP))
+        if words.steady:
+            sys.exit(wrong)
+        for name, made in subjects(words, shim):
             counts, is_wrong = tried(name, made(), workers)
             total, wrong, done = total + counts, wrong or is_wrong, done + 1
     print(f"{done} scripts and tests, {text_of(total)}")

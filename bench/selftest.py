@@ -141,6 +141,14 @@ def changed_by_refusal(copy):
     return 1, told, *wanted
 
 
+def requests_of_a_line(copy):
+    """A line that makes a request for memory more than is told, and one that makes one fewer."""
+    copy.edit("bench/refused.py", r'^    "read p/a 0 3": 0,$', '    "read p/a 0 3": 1,')
+    copy.edit("bench/refused.py", r'^    "write p/a 0 3 62": 1,$', '    "write p/a 0 3 62": 0,')
+    status, said = copy.python("bench/refused.py", "--steady", ZFSP)
+    return status, said, "`write p/a 0 3 62` makes more requests for memory than are told: 1 a round, told 0", "`read p/a 0 3` makes fewer", "write 0 into STEADY"
+
+
 def body_deleted(copy):
     edit = copy.first(f"crates/{CRATE}/refused/*.edit")
     edit.unlink()
@@ -271,6 +279,7 @@ BROKEN = {
     "a row, and a reply by the definition": (reply_by_definition, None),
     "rows that no plain value tells so": (rows_told, None),
     "a reply that a refused request changes": (changed_by_refusal, ROWS["session_rows"]),
+    "a request for memory more than is told": (requests_of_a_line, ZFSP),
     "a wrong body deleted": (body_deleted, None),
     "a wrong body that wasn't tried": (body_without_line, None),
     "a wrong body made right": (body_made_right, None),

@@ -6,6 +6,7 @@ use model::reply::Reply;
 use model::request::Request;
 use pool::Pool;
 use script::run::Caller;
+use script::spare::SpareTarget;
 use std::alloc::{AllocError, Global};
 use telling::dropped::{drop_reply, drop_request, put_reply};
 use telling::lines::{ask, requests_of};
@@ -46,7 +47,7 @@ impl Drop for AskedPool {
 impl Caller for AskedPool {
     ghost asks = { λ _ _ _ _. Unit {0} };
 
-    fn ask(&mut self, request: Request, reply: &mut Reply) -> bool {
+    fn ask(&mut self, request: Request, reply: &mut Reply, _spare: &mut SpareTarget) -> bool {
         match self.way {
             Way::AtOnce => self.pool.apply(self.alloc, &request, reply),
             Way::InTwo => in_two(self.alloc, &mut self.pool, &request, reply),
@@ -103,7 +104,7 @@ impl AskedPool {
         match request {
             Ok(request) => {
                 let mut reply = Reply::Done;
-                self.ask(request, &mut reply);
+                self.ask(request, &mut reply, &mut SpareTarget::default());
                 let outcome = tell_reply(self.alloc, &reply, told);
                 drop_reply(reply);
                 outcome

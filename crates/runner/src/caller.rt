@@ -11,6 +11,7 @@ use base::name::DsName;
 use model::reply::Reply;
 use model::request::{ObjectBlock, Request};
 use script::run::Caller;
+use script::spare::SpareTarget;
 use session::Pool;
 use std::alloc::Global;
 use std::marker::Model;
@@ -41,9 +42,9 @@ impl Model for PoolCaller {
 impl Caller for PoolCaller {
     ghost asks = { Serves };
 
-    fn ask(&mut self, request: Request, reply: &mut Reply) -> bool {
+    fn ask(&mut self, request: Request, reply: &mut Reply, spare: &mut SpareTarget) -> bool {
         self.pool.apply(self.alloc, &request, reply);
-        drop(request);
+        spare.keep(request);
         true
     }
 

@@ -12,6 +12,7 @@ use base::refusal::Refusal;
 use model::reply::Reply;
 use model::request::Request;
 use script::run::Caller;
+use script::spare::SpareTarget;
 use session::{ClosedView, OpenedView, Opening, Seat, Session, View};
 use std::alloc::Global;
 use std::marker::Model;
@@ -48,7 +49,7 @@ impl<'t, 's, K: Opening, T: Wait> Model for Seated<'t, 's, K, T> {
 impl<K: Opening, T: Wait> Caller for Seated<'_, '_, K, T> {
     ghost asks = { Gains };
 
-    fn ask(&mut self, request: Request, reply: &mut Reply) -> bool {
+    fn ask(&mut self, request: Request, reply: &mut Reply, _spare: &mut SpareTarget) -> bool {
         match self.asked(request) {
             Some(told) => {
                 *reply = told;

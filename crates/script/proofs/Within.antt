@@ -1,8 +1,10 @@
--- Lemmas on the snapshots of a file system.
-use Rattle.std.proofs.Common.{◌≡◌, ℕ, ◌+◌, ◌&&◌, ◌||◌, not, nat_lt, Bool, true, false, cond, eqb, List, [], ◌∷◌, ◌++◌, Option, None, Some, length, drop, get_or, refl, sym, ap, ◌∙◌, ◌⊎◌, inl, inr, arith, length-append}
+-- Lemmas on names with a file system's name in front.
+use Rattle.std.proofs.Common.{◌≡◌, ◌≤◌, ℕ, ◌+◌, ◌-◌, ◌&&◌, ◌||◌, not, nat_lt, Bool, true, false, cond, eqb, List, [], ◌∷◌, ◌++◌, Option, None, Some, length, take, drop, take_all, get_or, refl, sym, ap, subst, ◌∙◌, ◌⊎◌, inl, inr, arith, length-append, append-nil}
 use Rattle.std.proofs.Math.Seq.{take-append_seam, drop-append-add, get_or-append_seam}
-use Rattle.std.proofs.lemmas.Bool.{lt-ltb, false≢true, eqb-true}
+use Rattle.std.proofs.lemmas.Bool.{lt-ltb, le-ltb, false≢true, eqb-true}
 use Rattle.std.proofs.lemmas.Option.{none-some}
+use Rattle.std.proofs.lemmas.Slice.Eq.{bytes_eq-Decides}
+use Rattle.std.specs.Bool.{OnTrue}
 use Rattle.std.specs.List.{list_all, slice_split, onto_first, position, prefix_len}
 use Rattle.std.specs.Option.{option_map}
 use Rattle.std.specs.Str.{bytes_eq}
@@ -14,7 +16,9 @@ use Rattle.base.specs.declared.name.target.Target.{Target}
 use Rattle.base.specs.declared.name.target.Target.TheVariants.{FileSystem, Snapshot, Bookmark}
 use Rattle.base.specs.Names.{is_name_byte, is_component, is_name, is_mark, is_member, member_at, name_limit, whole_length}
 use Rattle.base.specs.Reading.{name_of, component_of, target_of, target_at, snap_in, snap_of}
+use Rattle.base.proofs.Marks.{target_marked, marked_if}
 use Rattle.model.specs.declared.request.Request.TheVariants.{WrittenSince, WouldFree}
+use Rattle.script.specs.Spare.{marked_target}
 use Rattle.script.specs.Words.{file_system_of, within, word_within, snap_within}
 use Rattle.script.specs.Meaning.{Asks, Faulty, shaped, named, three_of, since_word_of, would_free_of}
 
@@ -57,23 +61,6 @@ unmarked b h = at (eqb b 64) (eqb b 35) refl refl
     at false true e f = absurd (false≢true (sym (ap is_name_byte (eqb-true b 35 f)) ∙ h))
     at false false e f = refl
 
--- how far the bytes before the first mark go, with one byte more
-one_more : (b : ℕ) (fs after : List ℕ) (slash : Bool) → (list_all (list_all is_name_byte) (slice_split (λ x. eqb x 47) fs) ≡ true → prefix_len (λ x. not (is_mark x)) (fs ++ 64 ∷ after) ≡ length fs)
-    → eqb b 47 ≡ slash → list_all (list_all is_name_byte) (cond slash ([] ∷ slice_split (λ x. eqb x 47) fs) (onto_first b (slice_split (λ x. eqb x 47) fs))) ≡ true
-    → prefix_len (λ x. not (is_mark x)) (b ∷ fs ++ 64 ∷ after) ≡ length (b ∷ fs)
-one_more b fs after true rest e h =
-    ap (λ m. cond (not m) (1 + prefix_len (λ x. not (is_mark x)) (fs ++ 64 ∷ after)) 0) (ap is_mark (eqb-true b 47 e))
-    ∙ omega (arith, rest h)
-one_more b fs after false rest e h =
-    let s = first_byte b (slice_split (λ x. eqb x 47) fs) h in
-    ap (λ m. cond (not m) (1 + prefix_len (λ x. not (is_mark x)) (fs ++ 64 ∷ after)) 0) (unmarked b s.0)
-    ∙ omega (arith, rest s.1)
-
-before_mark : (fs after : List ℕ) → list_all (list_all is_name_byte) (slice_split (λ b. eqb b 47) fs) ≡ true
-    → prefix_len (λ b. not (is_mark b)) (fs ++ 64 ∷ after) ≡ length fs
-before_mark [] after h = refl
-before_mark (b ∷ fs) after h = one_more b fs after (eqb b 47) (before_mark fs after) refl h
-
 name_bytes : (fs : List ℕ) → is_name fs ≡ true → list_all (list_all is_name_byte) (slice_split (λ b. eqb b 47) fs) ≡ true
 name_bytes fs h = at (nat_lt name_limit (length fs)) h
   where
@@ -81,11 +68,36 @@ name_bytes fs h = at (nat_lt name_limit (length fs)) h
     at true e = absurd (false≢true e)
     at false e = components_bytes (slice_split (λ b. eqb b 47) fs) e
 
-mark_after : (fs after : List ℕ) → is_name fs ≡ true → position is_mark (fs ++ 64 ∷ after) ≡ Some (length fs)
-mark_after fs after h =
-    let n = before_mark fs after (name_bytes fs h) in
-    ap (λ k. cond (nat_lt k (length (fs ++ 64 ∷ after))) (Some k) None) n
-    ∙ ap (λ b. cond b (Some (length fs)) None) (lt-ltb (length fs) (length (fs ++ 64 ∷ after)) (omega (arith, length-append fs (64 ∷ after))))
+-- bytes of which the first is a mark, or none
+module _ (tail : List ℕ) where
+  -- how far the bytes before the first mark go, with one byte more
+  one_more : (b : ℕ) (fs : List ℕ) (slash : Bool) → (list_all (list_all is_name_byte) (slice_split (λ x. eqb x 47) fs) ≡ true → prefix_len (λ x. not (is_mark x)) (fs ++ tail) ≡ length fs)
+      → eqb b 47 ≡ slash → list_all (list_all is_name_byte) (cond slash ([] ∷ slice_split (λ x. eqb x 47) fs) (onto_first b (slice_split (λ x. eqb x 47) fs))) ≡ true
+      → prefix_len (λ x. not (is_mark x)) (b ∷ fs ++ tail) ≡ length (b ∷ fs)
+  one_more b fs true rest e h =
+      ap (λ m. cond (not m) (1 + prefix_len (λ x. not (is_mark x)) (fs ++ tail)) 0) (ap is_mark (eqb-true b 47 e))
+      ∙ omega (arith, rest h)
+  one_more b fs false rest e h =
+      let s = first_byte b (slice_split (λ x. eqb x 47) fs) h in
+      ap (λ m. cond (not m) (1 + prefix_len (λ x. not (is_mark x)) (fs ++ tail)) 0) (unmarked b s.0)
+      ∙ omega (arith, rest s.1)
+
+  before_mark : prefix_len (λ b. not (is_mark b)) tail ≡ 0 → (fs : List ℕ) → list_all (list_all is_name_byte) (slice_split (λ b. eqb b 47) fs) ≡ true
+      → prefix_len (λ b. not (is_mark b)) (fs ++ tail) ≡ length fs
+  before_mark none [] h = none
+  before_mark none (b ∷ fs) h = one_more b fs (eqb b 47) (before_mark none fs) refl h
+
+mark_after : (mark : ℕ) (fs after : List ℕ) → is_mark mark ≡ true → is_name fs ≡ true → position is_mark (fs ++ mark ∷ after) ≡ Some (length fs)
+mark_after mark fs after is h =
+    let none = ap (λ m. cond (not m) (1 + prefix_len (λ b. not (is_mark b)) after) 0) is in
+    let n = before_mark (mark ∷ after) none fs (name_bytes fs h) in
+    ap (λ k. cond (nat_lt k (length (fs ++ mark ∷ after))) (Some k) None) n
+    ∙ ap (λ b. cond b (Some (length fs)) None) (lt-ltb (length fs) (length (fs ++ mark ∷ after)) (omega (arith, length-append fs (mark ∷ after))))
+
+no_mark : (fs : List ℕ) → is_name fs ≡ true → position is_mark fs ≡ None
+no_mark fs h =
+    let n = ap (prefix_len (λ b. not (is_mark b))) (sym (append-nil fs)) ∙ before_mark [] refl fs (name_bytes fs h) in
+    ap (λ k. cond (nat_lt k (length fs)) (Some k) None) n ∙ ap (λ b. cond b (Some (length fs)) None) (le-ltb (length fs) (length fs) (omega arith))
 
 -- ---- the whole name of a snapshot
 
@@ -105,7 +117,7 @@ snap_of-whole fs word h =
     let bs = fs ++ 64 ∷ word in
     let n : length bs ≡ whole_length (within fs word) = omega (arith, length-append fs (64 ∷ word)) in
     let mark : eqb (get_or bs (length fs) 0) 64 ≡ true = ap (λ b. eqb b 64) (get_or-append_seam fs 64 word 0) in
-    ap (λ o. snap_in (target_at bs o)) (mark_after fs word h)
+    ap (λ o. snap_in (target_at bs o)) (mark_after 64 fs word refl h)
     ∙ ap (λ m. snap_in (cond (is_member bs m) (cond (eqb (get_or bs (length fs) 0) 64) (Some (Snapshot m)) (Some (Bookmark m))) None)) (member_of fs word)
     ∙ ap (λ b. snap_in (cond (is_member bs (within fs word)) (cond b (Some (Snapshot (within fs word))) (Some (Bookmark (within fs word)))) None)) mark
     ∙ ap (λ b. snap_in (cond (cond (nat_lt name_limit (length bs)) false (cond b (is_component word) false)) (Some (Snapshot (within fs word))) None)) h
@@ -144,6 +156,76 @@ target_name bs t e = at (position is_mark bs) e
         let m = member_at bs n in
         said (is_member bs m) (cond (eqb (get_or bs n 0) 64) (Some (Snapshot m)) (Some (Bookmark m))) t
         (λ h f. marked (eqb (get_or bs n 0) 64) m t (member_name bs m h) f) e
+
+-- ---- a word that is a target's name
+
+-- what was read was allowed
+allowed : (bs : List ℕ) → name_of bs ≡ Some bs → is_name bs ≡ true
+unfolding name_of
+allowed bs e = at (is_name bs) e
+  where
+    at : (b : Bool) → cond b (Some bs) None ≡ Some bs → b ≡ true
+    at true e = refl
+    at false e = cc
+
+-- the parts of a name with this mark between them
+joined_read : (mark : ℕ) (m : Member) → is_mark mark ≡ true → whole_length m ≤ name_limit → name_of m.file_system ≡ Some m.file_system → component_of m.component ≡ Some m.component
+    → target_of (m.file_system ++ mark ∷ m.component) ≡ Some (marked_target mark m)
+joined_read mark m is short name component =
+    let bs = m.file_system ++ mark ∷ m.component in
+    let n = length m.file_system in
+    let long : length bs ≡ whole_length m = omega (arith, length-append m.file_system (mark ∷ m.component)) in
+    let front : take n bs ≡ m.file_system = take-append_seam m.file_system (mark ∷ m.component) in
+    let back : drop (n + 1) bs ≡ m.component = drop-append-add m.file_system (mark ∷ m.component) 1 in
+    let whole : take (length bs - (n + 1)) (drop (n + 1) bs) ≡ m.component = take_all (length bs - (n + 1)) (drop (n + 1) bs) (omega (arith, long, ap length back)) ∙ back in
+    target_marked bs n m.file_system m.component (mark_after mark m.file_system m.component is (allowed m.file_system name)) (omega (arith, long, short))
+    (ap name_of front ∙ name) (ap component_of whole ∙ component)
+    ∙ ap (marked_if m.file_system m.component) (ap (λ b. eqb b 64) (get_or-append_seam m.file_system mark m.component 0))
+    ∙ by (eqb mark 64)
+  where
+    by : (at : Bool) → marked_if m.file_system m.component at ≡ Some (cond at (Snapshot m) (Bookmark m))
+    by true = refl
+    by false = refl
+
+and_assoc : (a b c : Bool) → (a && (b && c)) ≡ ((a && b) && c)
+and_assoc true b c = refl
+and_assoc false b c = refl
+
+-- a word has two parts where it begins with the one and goes on with the other
+pub eq_joined : (fs word rest : List ℕ) → bytes_eq word (fs ++ rest) ≡ (bytes_eq (take (length fs) word) fs && bytes_eq (drop (length fs) word) rest)
+eq_joined [] word rest = refl
+eq_joined (b ∷ fs) [] rest = refl
+eq_joined (b ∷ fs) (w ∷ ws) rest =
+    ap (λ c. eqb w b && c) (eq_joined fs ws rest) ∙ and_assoc (eqb w b) (bytes_eq (take (length fs) ws) fs) (bytes_eq (drop (length fs) ws) rest)
+
+-- where it begins with the front, by the byte behind it and by what is left
+pub eq_after : (word front rest back : List ℕ) (mark : ℕ) → bytes_eq (take (length front) word) front ≡ true → rest ≡ drop (length front) word → 1 ≤ length rest
+    → bytes_eq word (front ++ mark ∷ back) ≡ (eqb (get_or rest 0 0) mark && bytes_eq (drop 1 rest) back)
+eq_after word front rest back mark front_is rest_is long =
+    eq_joined front word (mark ∷ back) ∙ ap (λ b. b && bytes_eq (drop (length front) word) (mark ∷ back)) front_is ∙ ap (λ l. bytes_eq l (mark ∷ back)) (sym rest_is)
+    ∙ by rest long
+  where
+    by : (rest : List ℕ) → 1 ≤ length rest → bytes_eq rest (mark ∷ back) ≡ (eqb (get_or rest 0 0) mark && bytes_eq (drop 1 rest) back)
+    by [] long = absurd (omega (arith, long))
+    by (b ∷ rest) long = refl
+
+-- a word that is these bytes is read as they are
+reads_same : (b : Bool) (word text : List ℕ) (t : Target) → b ≡ bytes_eq word text → target_of text ≡ Some t → OnTrue b (target_of word ≡ Some t)
+reads_same true word text t same read = ap target_of ((bytes_eq-Decides word text).0 (sym same)) ∙ read
+reads_same false word text t same read = tt
+
+pub reads_member : (b : Bool) (word : List ℕ) (mark : ℕ) (m : Member) (front back : List ℕ) → b ≡ bytes_eq word (front ++ mark ∷ back) → is_mark mark ≡ true → whole_length m ≤ name_limit
+    → front ≡ m.file_system → back ≡ m.component → name_of front ≡ Some front → component_of back ≡ Some back → OnTrue b (target_of word ≡ Some (marked_target mark m))
+reads_member b word mark m front back same is short front_is back_is name component =
+    reads_same b word (m.file_system ++ mark ∷ m.component) (marked_target mark m) (same ∙ ap (λ f. bytes_eq word (f ++ mark ∷ back)) front_is ∙ ap (λ l. bytes_eq word (m.file_system ++ mark ∷ l)) back_is)
+    (joined_read mark m is short (subst (λ f. name_of f ≡ Some f) front_is name) (subst (λ l. component_of l ≡ Some l) back_is component))
+
+name_read : (name : List ℕ) → name_of name ≡ Some name → target_of name ≡ Some (FileSystem name)
+unfolding target_of
+name_read name read = ap (target_at name) (no_mark name (allowed name read)) ∙ ap (λ b. cond b (Some (FileSystem name)) None) (allowed name read)
+
+pub reads_name : (b : Bool) (word text name : List ℕ) → b ≡ bytes_eq word text → text ≡ name → name_of text ≡ Some text → OnTrue b (target_of word ≡ Some (FileSystem name))
+reads_name b word text name same is read = reads_same b word text (FileSystem name) same (name_read text read ∙ ap (λ n. Some (FileSystem n)) is)
 
 -- ---- what was written since a snapshot of the target's file system
 

@@ -1,5 +1,6 @@
 pub mod Lines
 pub mod Words
+pub mod Spare
 pub mod Meaning
 pub mod Text
 pub mod Run

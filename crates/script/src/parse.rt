@@ -13,6 +13,7 @@ ghost use Rattle.script.specs.Reading.{words_left, Means, MeansBlock, MeansTagge
 use crate::lines::LINE_LIMIT;
 use crate::settings::set;
 use crate::space::{get, would_free};
+use crate::spare::SpareTarget;
 use crate::streams::{receive, send};
 use crate::words::{has_only_words, leading_option, next_word, one, three, three_and_more, two};
 use base::data::Data;
@@ -24,9 +25,14 @@ use model::request::{PoolProperty, Request};
 use model::snap_names::SnapNames;
 use std::alloc::Global;
 
-/// The request of a line, or the refusal of a faulty line. NoMemory where its names or its bytes can't be allocated.
+/// The request of a line, or the refusal of a faulty line. NoMemory where its names or its bytes can't be allocated. Its target has the memory of the
+/// spare one where that has the same name.
 #[tactic(auto, unfolding(crate::specs::Meaning::request_of, crate::specs::Meaning::words_meaning, crate::specs::Meaning::command_of, crate::specs::Lines::line_limit))]
-pub(crate) fn request_at(alloc: Global, line: &[u8]) -> Result<Request, Refusal>
+pub(crate) fn request_at(
+    alloc: Global,
+    spare: &mut SpareTarget,
+    line: &[u8],
+) -> Result<Request, Refusal>
     ensures { Means result (request_of line.now) }
 {
     if line.len() > LINE_LIMIT {
@@ -39,19 +45,19 @@ pub(crate) fn request_at(alloc: Global, line: &[u8]) -> Result<Request, Refusal>
     if same_bytes(command, b"create") {
         return create(alloc, operands);
     } else if same_bytes(command, b"write") {
-        return write(alloc, operands);
+        return write(alloc, spare, operands);
     } else if same_bytes(command, b"punch") {
-        return punch(alloc, operands);
+        return punch(alloc, spare, operands);
     } else if same_bytes(command, b"rmobj") {
-        return free_object(alloc, operands);
+        return free_object(alloc, spare, operands);
     } else if same_bytes(command, b"snapshot") {
         return snapshot(alloc, operands);
     } else if same_bytes(command, b"read") {
-        return read(alloc, operands);
+        return read(alloc, spare, operands);
     } else if same_bytes(command, b"get") {
-        return get(alloc, operands);
+        return get(alloc, spare, operands);
     }
-    other_command_at(alloc, command, operands)
+    other_command_at(alloc, spare, command, operands)
 }
 
 // Reads the other commands. It and the readers that it calls are functions of their own: each call takes room on the stack, and a function fills
@@ -60,6 +66,7 @@ pub(crate) fn request_at(alloc: Global, line: &[u8]) -> Result<Request, Refusal>
 #[tactic(auto, unfolding(crate::specs::Meaning::command_of))]
 fn other_command_at(
     alloc: Global,
+    spare: &mut SpareTarget,
     command: &[u8],
     operands: Option<&[u8]>,
 ) -> Result<Request, Refusal>
@@ -77,11 +84,11 @@ fn other_command_at(
     } else if same_bytes(command, b"list") {
         return list(operands);
     } else if same_bytes(command, b"rollback") {
-        return rollback(alloc, operands);
+        return rollback(alloc, spare, operands);
     } else if same_bytes(command, b"destroy") {
-        return destroy(alloc, operands);
+        return destroy(alloc, spare, operands);
     } else if same_bytes(command, b"clone") {
-        return clone(alloc, operands);
+        return clone(alloc, spare, operands);
     } else if same_bytes(command, b"promote") {
         return promote(alloc, operands);
     } else if same_bytes(command, b"slice") {
@@ -91,23 +98,23 @@ fn other_command_at(
     } else if same_bytes(command, b"abandon") {
         return abandon(operands);
     } else if same_bytes(command, b"view") {
-        return open_view(alloc, operands);
+        return open_view(alloc, spare, operands);
     } else if same_bytes(command, b"unview") {
         return close_view(operands);
     } else if same_bytes(command, b"hold") {
-        return hold(alloc, operands);
+        return hold(alloc, spare, operands);
     } else if same_bytes(command, b"release") {
-        return release(alloc, operands);
+        return release(alloc, spare, operands);
     } else if same_bytes(command, b"holds") {
-        return holds(alloc, operands);
+        return holds(alloc, spare, operands);
     } else if same_bytes(command, b"bookmark") {
-        return bookmark(alloc, operands);
+        return bookmark(alloc, spare, operands);
     } else if same_bytes(command, b"wouldfree") {
         return would_free(alloc, operands);
     } else if same_bytes(command, b"set") {
         return set(alloc, operands);
     } else if same_bytes(command, b"send") {
-        return send(alloc, operands);
+        return send(alloc, spare, operands);
     } else if same_bytes(command, b"receive") {
         return receive(alloc, operands);
     }
@@ -141,67 +148,88 @@ fn promote(alloc: Global, operands: Option<&[u8]>) -> Result<Request, Refusal>
 
 #[inline(never)]
 #[tactic(auto, unfolding(crate::specs::Meaning::clone_of))]
-fn clone(alloc: Global, operands: Option<&[u8]>) -> Result<Request, Refusal>
+fn clone(
+    alloc: Global,
+    spare: &mut SpareTarget,
+    operands: Option<&[u8]>,
+) -> Result<Request, Refusal>
     ensures { Means result (clone_of (words_left (option_copied operands.entry))) }
 {
     let (target, name) = two(operands).ok_or(Refusal::BadLine)?;
-    let target = Target::read(alloc, target)?;
+    let target = spare.target(alloc, target)?;
     let name = DsName::read(alloc, name)?;
     Ok(Request::Clone { target, name })
 }
 
 // The tag and the target of a request that has these two operands.
 #[tactic(auto, unfolding(crate::specs::Meaning::tag_request_of))]
-fn tagged(alloc: Global, operands: Option<&[u8]>) -> Result<(Tag, Target), Refusal>
+fn tagged(
+    alloc: Global,
+    spare: &mut SpareTarget,
+    operands: Option<&[u8]>,
+) -> Result<(Tag, Target), Refusal>
     ensures { (request : List ℕ → Target → Request) → MeansTagged result (words_left (option_copied operands.entry)) request }
 {
     let (tag, target) = two(operands).ok_or(Refusal::BadLine)?;
     let tag = Tag::read(alloc, tag)?;
-    let target = Target::read(alloc, target)?;
+    let target = spare.target(alloc, target)?;
     Ok((tag, target))
 }
 
 #[inline(never)]
-fn hold(alloc: Global, operands: Option<&[u8]>) -> Result<Request, Refusal>
+fn hold(alloc: Global, spare: &mut SpareTarget, operands: Option<&[u8]>) -> Result<Request, Refusal>
     ensures { Means result (tag_request_of Request.Hold (words_left (option_copied operands.entry))) }
 {
-    let (tag, target) = tagged(alloc, operands)?;
+    let (tag, target) = tagged(alloc, spare, operands)?;
     Ok(Request::Hold { tag, target })
 }
 
 #[inline(never)]
-fn release(alloc: Global, operands: Option<&[u8]>) -> Result<Request, Refusal>
+fn release(
+    alloc: Global,
+    spare: &mut SpareTarget,
+    operands: Option<&[u8]>,
+) -> Result<Request, Refusal>
     ensures { Means result (tag_request_of Request.Release (words_left (option_copied operands.entry))) }
 {
-    let (tag, target) = tagged(alloc, operands)?;
+    let (tag, target) = tagged(alloc, spare, operands)?;
     Ok(Request::Release { tag, target })
 }
 
 #[inline(never)]
 #[tactic(auto, unfolding(crate::specs::Meaning::bookmark_of))]
-fn bookmark(alloc: Global, operands: Option<&[u8]>) -> Result<Request, Refusal>
+fn bookmark(
+    alloc: Global,
+    spare: &mut SpareTarget,
+    operands: Option<&[u8]>,
+) -> Result<Request, Refusal>
     ensures { Means result (bookmark_of (words_left (option_copied operands.entry))) }
 {
     let (target, mark) = two(operands).ok_or(Refusal::BadLine)?;
-    let target = Target::read(alloc, target)?;
+    let target = spare.target(alloc, target)?;
     let mark = MarkName::read(alloc, mark)?;
     Ok(Request::Bookmark { target, mark })
 }
 
 #[inline(never)]
-fn write(alloc: Global, operands: Option<&[u8]>) -> Result<Request, Refusal>
+fn write(
+    alloc: Global,
+    spare: &mut SpareTarget,
+    operands: Option<&[u8]>,
+) -> Result<Request, Refusal>
     ensures { Means result (write_of (words_left (option_copied operands.entry))) }
 {
     let Some((target, object, block, digits)) = three_and_more(operands) else {
         return Err(Refusal::BadLine);
     };
-    write_at(alloc, target, object, block, digits)
+    write_at(alloc, spare, target, object, block, digits)
 }
 
 // A write to a block. Where another word follows the digits, `digits` has a space, which is no digit, so the line is refused.
 #[tactic(auto, unfolding(crate::specs::Meaning::written_of))]
 fn write_at(
     alloc: Global,
+    spare: &mut SpareTarget,
     target: &[u8],
     object: &[u8],
     block: &[u8],
@@ -215,7 +243,7 @@ fn write_at(
     if !fill_block(digits, &mut bytes) {
         return Err(Refusal::BadLine);
     }
-    let target = Target::read(alloc, target)?;
+    let target = spare.target(alloc, target)?;
     let bytes = Data::new(alloc, &bytes)?;
     Ok(Request::Write {
         target,
@@ -227,20 +255,24 @@ fn write_at(
 
 // The target, object and block of a request for one block.
 #[tactic(auto, unfolding(crate::specs::Meaning::block_request_of))]
-fn block_place(alloc: Global, operands: Option<&[u8]>) -> Result<(Target, u32, u32), Refusal>
+fn block_place(
+    alloc: Global,
+    spare: &mut SpareTarget,
+    operands: Option<&[u8]>,
+) -> Result<(Target, u32, u32), Refusal>
     ensures { (request : Target → ℕ → ℕ → Request) → MeansBlock result (words_left (option_copied operands.entry)) request }
 {
     let (target, object, block) = three(operands).ok_or(Refusal::BadLine)?;
     let object = number(object).ok_or(Refusal::BadLine)?;
     let block = number(block).ok_or(Refusal::BadLine)?;
-    let target = Target::read(alloc, target)?;
+    let target = spare.target(alloc, target)?;
     Ok((target, object, block))
 }
 
-fn read(alloc: Global, operands: Option<&[u8]>) -> Result<Request, Refusal>
+fn read(alloc: Global, spare: &mut SpareTarget, operands: Option<&[u8]>) -> Result<Request, Refusal>
     ensures { Means result (block_request_of Request.Read (words_left (option_copied operands.entry))) }
 {
-    let (target, object, block) = block_place(alloc, operands)?;
+    let (target, object, block) = block_place(alloc, spare, operands)?;
     Ok(Request::Read {
         target,
         object,
@@ -248,10 +280,14 @@ fn read(alloc: Global, operands: Option<&[u8]>) -> Result<Request, Refusal>
     })
 }
 
-fn punch(alloc: Global, operands: Option<&[u8]>) -> Result<Request, Refusal>
+fn punch(
+    alloc: Global,
+    spare: &mut SpareTarget,
+    operands: Option<&[u8]>,
+) -> Result<Request, Refusal>
     ensures { Means result (block_request_of Request.Punch (words_left (option_copied operands.entry))) }
 {
-    let (target, object, block) = block_place(alloc, operands)?;
+    let (target, object, block) = block_place(alloc, spare, operands)?;
     Ok(Request::Punch {
         target,
         object,
@@ -261,12 +297,16 @@ fn punch(alloc: Global, operands: Option<&[u8]>) -> Result<Request, Refusal>
 
 #[inline(never)]
 #[tactic(auto, unfolding(crate::specs::Meaning::free_object_of))]
-fn free_object(alloc: Global, operands: Option<&[u8]>) -> Result<Request, Refusal>
+fn free_object(
+    alloc: Global,
+    spare: &mut SpareTarget,
+    operands: Option<&[u8]>,
+) -> Result<Request, Refusal>
     ensures { Means result (free_object_of (words_left (option_copied operands.entry))) }
 {
     let (target, object) = two(operands).ok_or(Refusal::BadLine)?;
     let object = number(object).ok_or(Refusal::BadLine)?;
-    let target = Target::read(alloc, target)?;
+    let target = spare.target(alloc, target)?;
     Ok(Request::FreeObject { target, object })
 }
 
@@ -309,39 +349,56 @@ pub fn snap_names(alloc: Global, words: &[u8]) -> Result<SnapNames, Refusal>
 
 /// The target of a request whose only operand is a target.
 #[tactic(auto, unfolding(crate::specs::Meaning::target_request_of))]
-pub(crate) fn lone_target(alloc: Global, operands: Option<&[u8]>) -> Result<Target, Refusal>
+pub(crate) fn lone_target(
+    alloc: Global,
+    spare: &mut SpareTarget,
+    operands: Option<&[u8]>,
+) -> Result<Target, Refusal>
     ensures { (request : Target → Request) → MeansTarget result (words_left (option_copied operands.entry)) request }
 {
     let target = one(operands).ok_or(Refusal::BadLine)?;
-    Target::read(alloc, target)
+    spare.target(alloc, target)
 }
 
 #[inline(never)]
 #[tactic(auto, unfolding(crate::specs::Meaning::rollback_of))]
-fn rollback(alloc: Global, operands: Option<&[u8]>) -> Result<Request, Refusal>
+fn rollback(
+    alloc: Global,
+    spare: &mut SpareTarget,
+    operands: Option<&[u8]>,
+) -> Result<Request, Refusal>
     ensures { Means result (rollback_of (words_left (option_copied operands.entry))) }
 {
     let (later, rest) = leading_option(operands, b"-r");
-    let target = lone_target(alloc, rest)?;
+    let target = lone_target(alloc, spare, rest)?;
     Ok(Request::Rollback { target, later })
 }
 
 #[inline(never)]
 #[tactic(auto, unfolding(crate::specs::Meaning::destroy_of))]
-fn destroy(alloc: Global, operands: Option<&[u8]>) -> Result<Request, Refusal>
+fn destroy(
+    alloc: Global,
+    spare: &mut SpareTarget,
+    operands: Option<&[u8]>,
+) -> Result<Request, Refusal>
     ensures { Means result (destroy_of (words_left (option_copied operands.entry))) }
 {
     let (recursive, rest) = leading_option(operands, b"-r");
-    destroyed(alloc, rest, recursive)
+    destroyed(alloc, spare, rest, recursive)
 }
 
 // A destroy of one target, deferred or not.
 #[tactic(auto, unfolding(crate::specs::Meaning::destroyed_of))]
-fn destroyed(alloc: Global, operands: Option<&[u8]>, recursive: bool) -> Result<Request, Refusal>
+fn destroyed(
+    alloc: Global,
+    spare: &mut SpareTarget,
+    operands: Option<&[u8]>,
+    recursive: bool,
+) -> Result<Request, Refusal>
     ensures { Means result (destroyed_of recursive (words_left (option_copied operands.entry))) }
 {
     let (defer, rest) = leading_option(operands, b"-d");
-    let target = lone_target(alloc, rest)?;
+    let target = lone_target(alloc, spare, rest)?;
     Ok(Request::Destroy {
         target: DestroyTarget::of(alloc, target)?,
         recursive,
@@ -368,18 +425,26 @@ fn slice(operands: Option<&[u8]>) -> Result<Request, Refusal>
 }
 
 #[inline(never)]
-fn open_view(alloc: Global, operands: Option<&[u8]>) -> Result<Request, Refusal>
+fn open_view(
+    alloc: Global,
+    spare: &mut SpareTarget,
+    operands: Option<&[u8]>,
+) -> Result<Request, Refusal>
     ensures { Means result (target_request_of Request.OpenView (words_left (option_copied operands.entry))) }
 {
-    let target = lone_target(alloc, operands)?;
+    let target = lone_target(alloc, spare, operands)?;
     Ok(Request::OpenView { target })
 }
 
 #[inline(never)]
-fn holds(alloc: Global, operands: Option<&[u8]>) -> Result<Request, Refusal>
+fn holds(
+    alloc: Global,
+    spare: &mut SpareTarget,
+    operands: Option<&[u8]>,
+) -> Result<Request, Refusal>
     ensures { Means result (target_request_of Request.Holds (words_left (option_copied operands.entry))) }
 {
-    let target = lone_target(alloc, operands)?;
+    let target = lone_target(alloc, spare, operands)?;
     Ok(Request::Holds { target })
 }
 

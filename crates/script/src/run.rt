@@ -15,6 +15,7 @@ use crate::ahead::Ahead;
 use crate::lines::{ReadFault, next_line};
 use crate::parse::request_at;
 use crate::sink::{Roomy, Sink};
+use crate::spare::SpareTarget;
 use crate::text::write_reply;
 use base::failing::Failing;
 use base::refusal::Refusal;
@@ -29,8 +30,9 @@ use thiserror::Error;
 pub trait Caller {
     ghost asks: { Self → Request → Option Reply → Self → Type 0 };
 
-    /// Replaces the reply Done by the reply to a request. False only where there is no memory for a copy of the reply.
-    fn ask(&mut self, request: Request, reply: &mut Reply) -> bool
+    /// Replaces the reply Done by the reply to a request. False only where there is no memory for a copy of the reply. A caller that is done with
+    /// the request may give it to `spare`, so that the next line needs no memory for the same target. It may also leave `spare` as it is.
+    fn ask(&mut self, request: Request, reply: &mut Reply, spare: &mut SpareTarget) -> bool
         requires { reply.old ≡ Reply.Done }
         ensures { asks self.old request (if result then Some reply.new else None) self.new };
 
@@ -104,7 +106,8 @@ pub fn answer_line<C: Caller>(
         return Err(LineFault::NoMemory);
     }
     let mut sink = Roomy(mem::replace(reply, Vec::new(alloc)));
-    let told = serve_line(alloc, caller, line, &mut sink);
+    let mut spare = SpareTarget::default();
+    let told = serve_line(alloc, caller, line, &mut sink, &mut spare);
     let Roomy(text) = sink;
     *reply = text;
     told
@@ -137,6 +140,7 @@ pub fn run_script<C: Caller, R: BufRead + Failing, W: Write + Failing>(
     let mut refused = false;
     let mut is_drained = false;
     let mut ahead = Ahead::default();
+    let mut spare = SpareTarget::default();
     'lines: for _ in 0..u64::MAX {
         let found = match next_line(
             caller,
@@ -157,7 +161,7 @@ pub fn run_script<C: Caller, R: BufRead + Failing, W: Write + Failing>(
         if !found {
             return Ok(refused);
         }
-        match serve_line(alloc, caller, line.as_slice(), writer) {
+        match serve_line(alloc, caller, line.as_slice(), writer, &mut spare) {
             Ok(refusal) => {
                 let is_refused = refusal.is_some();
                 if is_refused & stop {
@@ -182,6 +186,7 @@ fn serve_line<C: Caller, W: Sink>(
     caller: &mut C,
     line: &[u8],
     writer: &mut W,
+    spare: &mut SpareTarget,
 ) -> Result<Option<Refusal>, LineFault>
     ensures ok { IfOk result (λ refusal. IsServed C.asks (meaning line.now) (W.contents writer.old) (W.contents writer.new) caller.old caller.new refusal) }
     ensures err { IfErr result (λ fault. IsUnserved C.asks (meaning line.now) (may_miss (W.room writer.old)) (W.contents writer.old) (W.contents writer.new) caller.old caller.new fault) }
@@ -189,7 +194,7 @@ fn serve_line<C: Caller, W: Sink>(
     match line {
         [] => Ok(None),
         [b'#', ..] => Ok(None),
-        _ => serve_request(alloc, caller, line, writer),
+        _ => serve_request(alloc, caller, line, writer, spare),
     }
 }
 
@@ -199,12 +204,13 @@ fn serve_request<C: Caller, W: Sink>(
     caller: &mut C,
     line: &[u8],
     writer: &mut W,
+    spare: &mut SpareTarget,
 ) -> Result<Option<Refusal>, LineFault>
     ensures ok { IfOk result (λ refusal. IsServed C.asks (request_of line.now) (W.contents writer.old) (W.contents writer.new) caller.old caller.new refusal) }
     ensures err { IfErr result (λ fault. IsUnserved C.asks (request_of line.now) (may_miss (W.room writer.old)) (W.contents writer.old) (W.contents writer.new) caller.old caller.new fault) }
 {
-    match request_at(alloc, line) {
-        Ok(request) => serve(caller, request, writer),
+    match request_at(alloc, spare, line) {
+        Ok(request) => serve(caller, request, writer, spare),
         Err(refusal) => refuse(writer, refusal),
     }
 }
@@ -230,12 +236,13 @@ fn serve<C: Caller, W: Sink>(
     caller: &mut C,
     request: Request,
     writer: &mut W,
+    spare: &mut SpareTarget,
 ) -> Result<Option<Refusal>, LineFault>
     ensures ok { IfOk result (λ refusal. IsServed C.asks (Asks request) (W.contents writer.old) (W.contents writer.new) caller.old caller.new refusal) }
     ensures err { IfErr result (λ fault. IsUnserved C.asks (Asks request) (may_miss (W.room writer.old)) (W.contents writer.old) (W.contents writer.new) caller.old caller.new fault) }
 {
     let mut reply = Reply::Done;
-    if caller.ask(request, &mut reply) {
+    if caller.ask(request, &mut reply, spare) {
         report(writer, &reply)
     } else {
         Err(LineFault::NoMemory)

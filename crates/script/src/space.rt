@@ -6,6 +6,7 @@ ghost use Rattle.script.specs.Words.{property_of_word, word_within, file_system_
 ghost use Rattle.script.specs.Meaning.{get_of, get_property_of, written_since_of, since_snap_of, since_word_of, would_free_of};
 ghost use Rattle.script.specs.Reading.{words_left, Means};
 
+use crate::spare::SpareTarget;
 use crate::words::{three, two};
 use base::name::{Component, DsName, NAME_LIMIT, SnapName, Target};
 use base::refusal::Refusal;
@@ -17,60 +18,84 @@ use std::alloc::Global;
 /// of the target's file system (zfsprops(7)). BadLine where there aren't two operands or PROP isn't a property, BadName where a name is invalid
 /// or the snapshot's whole name has more than 255 bytes, NoMemory where a name can't be allocated.
 #[tactic(auto, unfolding(crate::specs::Meaning::get_of))]
-pub(crate) fn get(alloc: Global, operands: Option<&[u8]>) -> Result<Request, Refusal>
+pub(crate) fn get(
+    alloc: Global,
+    spare: &mut SpareTarget,
+    operands: Option<&[u8]>,
+) -> Result<Request, Refusal>
     ensures { Means result (get_of (words_left (option_copied operands.entry))) }
 {
     let Some((property, target)) = two(operands) else {
         return Err(Refusal::BadLine);
     };
     match property.strip_prefix(b"written@") {
-        Some(since) => get_written(alloc, since, target),
-        None => get_property(alloc, property, target),
+        Some(since) => get_written(alloc, spare, since, target),
+        None => get_property(alloc, spare, property, target),
     }
 }
 
 // A request for a property with a fixed name.
 #[inline(never)]
 #[tactic(auto, unfolding(crate::specs::Meaning::get_property_of))]
-fn get_property(alloc: Global, property: &[u8], target: &[u8]) -> Result<Request, Refusal>
+fn get_property(
+    alloc: Global,
+    spare: &mut SpareTarget,
+    property: &[u8],
+    target: &[u8],
+) -> Result<Request, Refusal>
     ensures { Means result (get_property_of property.now target.now) }
 {
     let Some(property) = property_named(property) else {
         return Err(Refusal::BadLine);
     };
-    let target = Target::read(alloc, target)?;
+    let target = spare.target(alloc, target)?;
     Ok(Request::Get { target, property })
 }
 
 // A request for what was written since a snapshot. The snapshot is given by its whole name, if the word has an `@`, or else by its component.
 #[tactic(auto, unfolding(crate::specs::Meaning::written_since_of))]
-fn get_written(alloc: Global, since: &[u8], target: &[u8]) -> Result<Request, Refusal>
+fn get_written(
+    alloc: Global,
+    spare: &mut SpareTarget,
+    since: &[u8],
+    target: &[u8],
+) -> Result<Request, Refusal>
     ensures { Means result (written_since_of since.now target.now) }
 {
     if since.contains(&b'@') {
-        since_snap(alloc, since, target)
+        since_snap(alloc, spare, since, target)
     } else {
-        since_word(alloc, since, target)
+        since_word(alloc, spare, since, target)
     }
 }
 
 // A request for what was written since a snapshot that is given by its whole name.
 #[inline(never)]
 #[tactic(auto, unfolding(crate::specs::Meaning::since_snap_of))]
-fn since_snap(alloc: Global, since: &[u8], target: &[u8]) -> Result<Request, Refusal>
+fn since_snap(
+    alloc: Global,
+    spare: &mut SpareTarget,
+    since: &[u8],
+    target: &[u8],
+) -> Result<Request, Refusal>
     ensures { Means result (since_snap_of since.now target.now) }
 {
     let since = SnapName::read(alloc, since)?;
-    let target = Target::read(alloc, target)?;
+    let target = spare.target(alloc, target)?;
     Ok(Request::WrittenSince { target, since })
 }
 
 // A request for what was written since a snapshot of the target's file system, which is given by its component.
 #[inline(never)]
-fn since_word(alloc: Global, since: &[u8], target: &[u8]) -> Result<Request, Refusal>
+fn since_word(
+    alloc: Global,
+    spare: &mut SpareTarget,
+    since: &[u8],
+    target: &[u8],
+) -> Result<Request, Refusal>
     ensures { Means result (since_word_of since.now target.now) }
 {
-    let target = Target::read(alloc, target)?;
+    let target = spare.target(alloc, target)?;
     let since = whole_name(alloc, file_system_of(&target).as_bytes(), since)?;
     Ok(Request::WrittenSince { target, since })
 }

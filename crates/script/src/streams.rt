@@ -5,8 +5,9 @@ ghost use Rattle.script.specs.Meaning.{send_of, send_from_of, send_whole_of, rec
 ghost use Rattle.script.specs.Reading.{words_left, Means, Says};
 
 use crate::parse::lone_target;
+use crate::spare::SpareTarget;
 use crate::words::{leading_option, two};
-use base::name::{SnapName, Target};
+use base::name::SnapName;
 use base::refusal::Refusal;
 use base::text::Bytes;
 use hex::FromHexError;
@@ -18,27 +19,35 @@ use std::alloc::Global;
 /// operand isn't a name, the source first, NoMemory where a name can't be allocated.
 #[inline(never)]
 #[tactic(auto, unfolding(crate::specs::Meaning::send_of))]
-pub(crate) fn send(alloc: Global, operands: Option<&[u8]>) -> Result<Request, Refusal>
+pub(crate) fn send(
+    alloc: Global,
+    spare: &mut SpareTarget,
+    operands: Option<&[u8]>,
+) -> Result<Request, Refusal>
     ensures { Means result (send_of (words_left (option_copied operands.entry))) }
 {
     let (has_source, rest) = leading_option(operands, b"-i");
     if has_source {
-        send_from(alloc, rest)
+        send_from(alloc, spare, rest)
     } else {
-        send_whole(alloc, rest)
+        send_whole(alloc, spare, rest)
     }
 }
 
 // An incremental send, from a source.
 #[tactic(auto, unfolding(crate::specs::Meaning::send_from_of))]
-fn send_from(alloc: Global, operands: Option<&[u8]>) -> Result<Request, Refusal>
+fn send_from(
+    alloc: Global,
+    spare: &mut SpareTarget,
+    operands: Option<&[u8]>,
+) -> Result<Request, Refusal>
     ensures { Means result (send_from_of (words_left (option_copied operands.entry))) }
 {
     let Some((source, target)) = two(operands) else {
         return Err(Refusal::BadLine);
     };
-    let source = Target::read(alloc, source)?;
-    let target = Target::read(alloc, target)?;
+    let source = spare.target(alloc, source)?;
+    let target = spare.target(alloc, target)?;
     Ok(Request::Send {
         target,
         from: Some(source),
@@ -47,10 +56,14 @@ fn send_from(alloc: Global, operands: Option<&[u8]>) -> Result<Request, Refusal>
 
 // A full send.
 #[tactic(auto, unfolding(crate::specs::Meaning::send_whole_of))]
-fn send_whole(alloc: Global, operands: Option<&[u8]>) -> Result<Request, Refusal>
+fn send_whole(
+    alloc: Global,
+    spare: &mut SpareTarget,
+    operands: Option<&[u8]>,
+) -> Result<Request, Refusal>
     ensures { Means result (send_whole_of (words_left (option_copied operands.entry))) }
 {
-    let target = lone_target(alloc, operands)?;
+    let target = lone_target(alloc, spare, operands)?;
     Ok(Request::Send { target, from: None })
 }
 

@@ -3,6 +3,7 @@ use model::entry::{Entry, KeptReply};
 use model::reply::Reply;
 use model::request::Request;
 use script::run::Caller;
+use script::spare::SpareTarget;
 use session::{Closed, Pool};
 use std::alloc::{AllocError, Global};
 use std::sync::Arc;
@@ -23,7 +24,7 @@ struct PoolCaller<'p> {
 impl Caller for PoolCaller<'_> {
     ghost asks = { λ _ _ _ _. Unit {0} };
 
-    fn ask(&mut self, request: Request, reply: &mut Reply) -> bool {
+    fn ask(&mut self, request: Request, reply: &mut Reply, _spare: &mut SpareTarget) -> bool {
         self.pool.apply(self.alloc, &request, reply);
         drop_request(request);
         true
@@ -40,7 +41,7 @@ struct Comparer<'e> {
 impl Caller for Comparer<'_> {
     ghost asks = { λ _ _ _ _. Unit {0} };
 
-    fn ask(&mut self, request: Request, _reply: &mut Reply) -> bool {
+    fn ask(&mut self, request: Request, _reply: &mut Reply, _spare: &mut SpareTarget) -> bool {
         self.is_same = self.entry.request.same(&request);
         drop_request(request);
         true

@@ -3,6 +3,7 @@ use crate::dropped::drop_request;
 use model::reply::Reply;
 use model::request::Request;
 use script::run::{Caller, answer_line};
+use script::spare::SpareTarget;
 use std::alloc::{AllocError, Global};
 
 /// Keeps the requests that it is asked.
@@ -23,7 +24,7 @@ fn keep(requests: &mut Vec<Request>, request: Request) -> bool {
 impl Caller for Collector {
     ghost asks = { λ _ _ _ _. Unit {0} };
 
-    fn ask(&mut self, request: Request, _reply: &mut Reply) -> bool {
+    fn ask(&mut self, request: Request, _reply: &mut Reply, _spare: &mut SpareTarget) -> bool {
         keep(&mut self.requests, request)
     }
 }

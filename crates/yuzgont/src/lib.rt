@@ -51,6 +51,7 @@ pub use pool::{MOST_BLOCKS, Pool, Ready};
 pub use runner::PoolCaller;
 pub use script::lines::LINE_LIMIT;
 pub use script::run::{Caller, LineFault, ScriptFault, answer_line, run_script};
+pub use script::spare::SpareTarget;
 pub use session::{
     Book, CALL_LIMIT, Closed, ClosedView, Gate, OpenedView, Opening, Receipt, SEAT_LIMIT, Seat,
     Session, Turns, View,
