@@ -1,6 +1,5 @@
-use Rattle.std.proofs.Common.{◌≡◌, ℕ, ◌-◌, ◌<◌, List, [], ◌∷◌, ◌++◌, Some, sym, ap, subst, ◌∙◌, arith}
+use Rattle.std.proofs.Common.{ℕ, ◌-◌, ◌<◌, List, [], ◌∷◌, ◌++◌, Some, sym, ap, subst, ◌∙◌, arith}
 use Rattle.std.specs.Prelude.{IfSome}
-use Rattle.std.proofs.lemmas.Result.{on_ok_weaker}
 use Rattle.tree.specs.declared.block.Root.{Root}
 use Rattle.image.specs.ImageBlocks.{root_block, maybe_block}
 use Rattle.image.specs.Image.{blocks_in}
@@ -11,10 +10,8 @@ use Rattle.image.proofs.walk.+gather.Goals.{in-Some+in_default-gather, in_defaul
 
 pub returns-then-level-eq0-clause-ok : goal.returns-then-level-eq0-clause-ok
 returns-then-level-eq0-clause-ok t c =
-    on_ok_weaker c.push_leaf.result (λ (e : c.push_leaf.new.out.items ≡ c.args.out.now.items ++ (c.args.index, c.block_of-block.result) ∷ []).
     ap (behind c.args.out.now.items) (leaf_is (blocks_in c.args.count c.args.written.now) c.args.count c.args.level c.args.index (root_block c.args.top) c.if-level-eq0.true)
-    ∙ ap Some (sym (e ∙ ap (λ x. c.args.out.now.items ++ (c.args.index, x) ∷ []) c.block_of-block.ensures)))
-    c.push_leaf.ensures.ok
+    ∙ ap Some (sym (c.in_ok-push.ensures.items ∙ ap (λ x. c.args.out.now.items ++ (c.args.index, x) ∷ []) c.block_of-block.ensures))
 
 pub loop-place-init : goal.loop-place-init
 loop-place-init t c = begins (blocks_in c.args.count c.args.written.now) c.args.count c.args.level c.args.index (root_block c.args.top) c.args.out.now.items (omega (arith, c.if-level-eq0.false))

@@ -2,9 +2,9 @@ use Rattle.std.proofs.Common.{◌≡◌, ℕ, ◌-◌, ◌*◌, ◌++◌, length
 use Rattle.image.specs.Image.{padded}
 use Rattle.image.proofs.image.Image.new.Goals as goal
 
-pub returns-clause-ok : goal.returns-clause-ok
+pub returns : goal.returns
 unfolding padded
-returns-clause-ok c =
+returns c =
     let size : 512 * c.args.n - 0 ≡ 512 * c.args.n = omega arith in
     let bytes = ap (λ xs. xs ++ replicate {A = ℕ} (512 * c.args.n - length xs) 0) c.in_ok-written.ensures.items ∙ ap (λ n. replicate {A = ℕ} n 0) size in
-    (λ i. record { bytes = bytes i; kept = c.in_ok-kept.ensures.ok i; keeps = 0 })
+    (λ i. record { bytes = bytes i; kept = c.in-Ok.ensures.ok i; keeps = 0 })

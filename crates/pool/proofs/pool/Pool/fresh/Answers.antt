@@ -85,7 +85,7 @@ invariant_of-result c =
       synced = c.in_ok-numbers.ensures.synced ∙ all_free c.args.id c.args.blocks;
       swept = λ name f u at i d. absurd (none_first name f u at i);
       one = begin_one c.args.id c.args.blocks;
-      image = first_image c.args.id c.args.blocks image c.bytes-nothing.ensures.size (ap (λ (i : ShownImage). i.kept) c.in_ok-image.ensures.ok);
+      image = first_image c.args.id c.args.blocks image c.bytes-nothing.ensures.size (ap (λ (i : ShownImage). i.kept) c.in_ok-image.ensures);
     })))
 
 pub returns-clause-ok : goal.returns-clause-ok
@@ -95,7 +95,7 @@ returns-clause-ok c =
     λ i. state_in (keep_of c.args.id c.args.blocks (last i) c.new-5.result (c.in_ok-views.ensures.ok i) c.in_ok-numbers.numbers c.in_ok-image.image) (c.in_ok-present.ensures.ok i)
 
 pub returns-clause-keeps : goal.returns-clause-keeps
-returns-clause-keeps c = ap (λ (i : ShownImage). i.keeps) c.in_ok-image.ensures.ok
+returns-clause-keeps c = ap (λ (i : ShownImage). i.keeps) c.in_ok-image.ensures
 
 pub returns-clause-zeros : goal.returns-clause-zeros
-returns-clause-zeros c = ap (λ (i : ShownImage). i.bytes) c.in_ok-image.ensures.ok
+returns-clause-zeros c = ap (λ (i : ShownImage). i.bytes) c.in_ok-image.ensures
