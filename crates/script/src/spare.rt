@@ -4,7 +4,7 @@ ghost use Rattle.std.specs.Bool.{OnTrue};
 ghost use Rattle.std.specs.Str.{bytes_eq};
 ghost use Rattle.base.specs.Names.{is_mark, name_limit, whole_length};
 ghost use Rattle.base.specs.Reading.{Reads, target_of};
-ghost use Rattle.script.specs.Spare.{is_spare, marked_target, spare_after, spare_left, target_text};
+ghost use Rattle.script.specs.Spare.{is_spare, marked_target, spare_after, spare_left, target_in, target_text};
 
 use base::name::{Member, Target};
 use base::refusal::Refusal;
@@ -15,9 +15,17 @@ use std::marker::Model;
 
 /// The target of a request that is done with, or none. Most lines of a script name what the line before has named. Such a line takes its target
 /// from here, and needs no memory for it. Contracts see the target.
-#[derive(Default, Drop, Debug)]
+#[derive(Default, Debug)]
 pub struct SpareTarget {
     kept: Option<Target>,
+}
+
+// Written by hand, so that it is proved once: a derived one is expanded anew in each crate that drops the type.
+impl Drop for SpareTarget {
+    fn drop(self) {
+        let SpareTarget { kept } = self;
+        drop(kept);
+    }
 }
 
 impl Model for SpareTarget {
@@ -35,22 +43,8 @@ impl SpareTarget {
     pub fn keep(&mut self, request: Request)
         ensures { self.new ≡ spare_after self.old request }
     {
-        match request {
-            Request::Write { target, .. }
-            | Request::Punch { target, .. }
-            | Request::FreeObject { target, .. }
-            | Request::Read { target, .. }
-            | Request::Get { target, .. }
-            | Request::Rollback { target, .. }
-            | Request::OpenView { target }
-            | Request::Clone { target, .. }
-            | Request::Hold { target, .. }
-            | Request::Release { target, .. }
-            | Request::Holds { target }
-            | Request::Bookmark { target, .. }
-            | Request::WrittenSince { target, .. }
-            | Request::Send { target, .. } => self.kept = Some(target),
-            other => drop(other),
+        if let Some(target) = target_in(request) {
+            self.kept = Some(target);
         }
     }
 
@@ -66,6 +60,29 @@ impl SpareTarget {
             Some(target) => Ok(target),
             None => Target::read(alloc, word),
         }
+    }
+}
+
+// The target of a request that has one. Each kind has an arm of its own, since the prover has no rule for a move out of alternatives.
+fn target_in(request: Request) -> Option<Target>
+    ensures { result ≡ target_in request }
+{
+    match request {
+        Request::Write { target, .. } => Some(target),
+        Request::Punch { target, .. } => Some(target),
+        Request::FreeObject { target, .. } => Some(target),
+        Request::Read { target, .. } => Some(target),
+        Request::Get { target, .. } => Some(target),
+        Request::Rollback { target, .. } => Some(target),
+        Request::OpenView { target } => Some(target),
+        Request::Clone { target, .. } => Some(target),
+        Request::Hold { target, .. } => Some(target),
+        Request::Release { target, .. } => Some(target),
+        Request::Holds { target } => Some(target),
+        Request::Bookmark { target, .. } => Some(target),
+        Request::WrittenSince { target, .. } => Some(target),
+        Request::Send { target, .. } => Some(target),
+        _ => None,
     }
 }
 
