@@ -24,7 +24,7 @@ pub mod Recounted
 pub mod Totals
 pub mod Keys
 pub mod Names
-pub mod Space
+pub mod Sums
 pub mod Pool
 pub mod Root
 pub mod Enough

@@ -24,7 +24,7 @@ use Rattle.limits.specs.Limits.{IsUnlimited}
 use Rattle.limits.specs.Space.{own_of}
 use Rattle.limits.proofs.Totals.{sum-total}
 use Rattle.limits.proofs.Names.{is_child, child_is, is_child_of, level_up, level_low, in_keys, from_keys, keys_once}
-use Rattle.limits.proofs.Space.{own_total}
+use Rattle.limits.proofs.Sums.{own_total}
 
 -- where none passes a test, the sum over those that pass is nothing
 total_none : (t : List ℕ → Bool) (v : List ℕ → ℕ) (xs : List (List ℕ)) → ((x : List ℕ) → IsIn xs x → t x ≡ true → ⊥) → total (λ x. cond (t x) (v x) 0) xs ≡ 0

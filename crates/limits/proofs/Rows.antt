@@ -22,7 +22,7 @@ use Rattle.datasets.proofs.Above.{below_is_map, newest_is}
 use Rattle.limits.specs.Space.{own_of}
 use Rattle.limits.proofs.Levels.{here_is}
 use Rattle.limits.proofs.Names.{in_keys}
-use Rattle.limits.proofs.Space.{own_total}
+use Rattle.limits.proofs.Sums.{own_total}
 use Rattle.limits.specs.Ledgers.{account_in, accounts_in}
 use Rattle.limits.specs.Rows.{IsRowOf, own_in, written_in, unwritten_in, account_at}
 use Rattle.limits.proofs.Order.{no_entry, keys_long, entry_at, place_in}

@@ -19,7 +19,7 @@ use Rattle.datasets.proofs.Above.{below_is_map}
 use Rattle.limits.specs.Limits.{IsUnlimited}
 use Rattle.limits.specs.Space.{own_of}
 use Rattle.limits.proofs.Totals.{sum-total}
-use Rattle.limits.proofs.Space.{own_total}
+use Rattle.limits.proofs.Sums.{own_total}
 use Rattle.limits.proofs.Family.{used_unlimited, used_by_refreservation_unlimited}
 use Rattle.lookups.specs.Used.{own_in, own_within}
 
