@@ -106,7 +106,7 @@ module _ (s : State) (numbers : List BlockState) (sound : IsSound s numbers) (w 
 
 -- it is allowed
 are_allowed : (s : State) (numbers : List BlockState) (i : ShownImage) → IsImageOf s i → (e : Effect) → MaySettle s.last s.size numbers e → AreOpen i.kept (blocks_written i.bytes e)
-are_allowed s numbers i is (Blocks changed writes) may = may_open i.kept i.bytes writes (size_kept s i is) (subst (λ k. MayWrite k writes) (sym is.kept) may.2)
+are_allowed s numbers i is (Blocks changed writes) may = may_open i.kept i.bytes writes (size_kept s i is) (subst (λ k. MayWrite k writes) (sym is.kept) may.1)
 are_allowed s numbers i is Nothing may = tt
 are_allowed s numbers i is (Guids next) may = tt
 are_allowed s numbers i is (Taken taken) may = tt

@@ -1,5 +1,5 @@
 //! The state of a pool other than its present world.
-ghost use Rattle.std.specs.Prelude.{◌≡◌, ⊥, Some, None, IfSome, map};
+ghost use Rattle.std.specs.Prelude.{◌≡◌, Ok, Some, None, IfSome, map};
 ghost use Rattle.base.specs.Surveys.{dead_block};
 ghost use Rattle.model.specs.Ids.{snap_id};
 ghost use Rattle.removals.specs.Requests.{IsSweptBut};
