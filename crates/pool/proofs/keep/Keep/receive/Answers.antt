@@ -1,8 +1,9 @@
-use Rattle.std.proofs.Common.{◌≡◌, ap, List, Option, None, Some, false, refl, sym, subst, ◌∙◌}
+use Rattle.std.proofs.Common.{◌≡◌, ap, List, Option, None, Some, false, refl, sym, subst, ◌∙◌, rules}
 use Rattle.std.specs.Option.{is_some}
 use Rattle.model.specs.Step.{Step}
 use Rattle.model.specs.declared.reply.Reply.TheVariants.{Refused}
 use Rattle.model.specs.declared.request.Request.TheVariants.{Receive}
+use Rattle.base.specs.declared.refusal.Refusal.TheVariants.{NoMemory}
 use Rattle.base.specs.declared.name.member.Member.{Member}
 use Rattle.batch.specs.declared.draft.Draft.{Draft}
 use Rattle.steps.specs.Edits.{datasets_of}
@@ -39,9 +40,8 @@ recount-requires-clause-few c =
 
 pub returns-in_err-blocks-clause-performed : goal.returns-in_err-blocks-clause-performed
 returns-in_err-blocks-clause-performed c =
-    exits (state_in c.args.self.now c.args.world.now) c.args.self.now.numbers.present _ (Receive c.args.snapshot.now c.args.bytes.now c.args.mode.now) c.from_residual-in_err-blocks.result c.in_err-blocks.field-0.0 c.from_residual-in_err-blocks.ensures.1
-    (subst (λ e. Step (state_in c.args.self.now c.args.world.now) (Receive c.args.snapshot.now c.args.bytes.now c.args.mode.now) (Refused e) (state_in c.args.self.now c.args.world.now)) (sym c.in_err-blocks.ensures.err)
-    (receive_no_memory (state_in c.args.self.now c.args.world.now) c.args.snapshot.now c.args.bytes.now c.args.mode.now))
+    exits (state_in c.args.self.now c.args.world.now) c.args.self.now.numbers.present _ (Receive c.args.snapshot.now c.args.bytes.now c.args.mode.now) c.from_residual-in_err-blocks.result NoMemory (search rules)
+    (receive_no_memory (state_in c.args.self.now c.args.world.now) c.args.snapshot.now c.args.bytes.now c.args.mode.now)
 
 pub recount-requires-clause-before : goal.recount-requires-clause-before
 recount-requires-clause-before c =
