@@ -35,18 +35,9 @@
 //! `bench/session_rows.py` tells the same by plain values. Status 3 is want of memory for a line, or a failed read or write.
 #![tactic(auto)]
 
-mod calling;
-mod ended;
-mod fresh;
-mod gates;
 mod input;
-mod left;
 mod sections;
-mod sitter;
 mod sitting;
-mod table;
-mod viewing;
-mod working;
 
 use input::Rows;
 use std::io;

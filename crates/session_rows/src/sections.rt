@@ -2,14 +2,14 @@
 ghost use Rattle.std.specs.Prelude.{◌≡◌};
 ghost use Rattle.model.specs.State.{fresh_state};
 
-use crate::ended::Ended;
-use crate::fresh::fresh_session;
 use crate::input::Rows;
-use crate::sitter::Sitter;
 use crate::sitting::seated;
-use crate::table::Table;
 use base::refusal::Refusal;
 use session::{Opening, Session};
+use session_books::ended::Ended;
+use session_books::fresh::fresh_session;
+use session_seats::sitter::Sitter;
+use session_seats::table::Table;
 use std::alloc::{AllocError, Global};
 use std::marker::Brand;
 use std::sync::Wait;

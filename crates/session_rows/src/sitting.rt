@@ -1,8 +1,8 @@
 //! Rows on a session, up to its end.
 use crate::input::Rows;
-use crate::sitter::Sitter;
-use crate::table::Table;
 use session::{Opening, View};
+use session_seats::sitter::Sitter;
+use session_seats::table::Table;
 use std::alloc::AllocError;
 use std::sync::Wait;
 use std::thread::{Threads, for_each_mut};

@@ -4,10 +4,10 @@ ghost use Rattle.model.specs.State.{fresh_state};
 
 use crate::fresh::fresh_book;
 use crate::left;
-use crate::sitter::Sitter;
-use crate::table::tell_called;
 use base::refusal::Refusal;
 use session::{Book, Call, Closed, Entered, Opening, Seat, Session, enter_call};
+use session_seats::sitter::Sitter;
+use session_seats::table::tell_called;
 use std::alloc::{AllocError, Global};
 use telling::lines::requests_of;
 use telling::told::{end_line, tell, tell_number, tell_refusal};
@@ -22,7 +22,7 @@ pub struct Ended<K: Opening> {
     left: Vec<Closed>,
 }
 
-// Written by hand, so that it is proved once: a derived `Drop` is laid out wherever a value goes out of scope.
+// Written by hand, so that it is proved once: a derived `Drop` is expanded again in each crate that drops the type.
 impl<K: Opening> Drop for Ended<K> {
     fn drop(self) {
         let Ended {

@@ -19,7 +19,7 @@ pub struct Sitter<K: Opening> {
     pub is_faulty: bool,
 }
 
-// Written by hand, so that it is proved once: a derived `Drop` is laid out wherever a value goes out of scope.
+// Written by hand, so that it is proved once: a derived `Drop` is expanded again in each crate that drops the type.
 impl<K: Opening> Drop for Sitter<K> {
     fn drop(self) {
         let Sitter {
